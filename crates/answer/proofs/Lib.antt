@@ -1,0 +1,6 @@
+pub mod OneLaws
+pub mod CheckLaws
+pub mod FirstLaws
+pub mod ThoseLaws
+pub mod LentLaws
+pub mod Laws

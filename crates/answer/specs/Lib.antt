@@ -1,0 +1,5 @@
+pub mod Outcome
+pub mod Checks
+pub mod Places
+pub mod Lent
+pub mod Laws

@@ -1,0 +1,42 @@
+-- What an answer says in document 01's terms: a result, or a refusal's number and its two places.
+-- Assumes nothing.
+use Prim.Native.Nat.{ℕ}
+use Rattle.answer.specs.declared.Kind.{Kind}
+use Rattle.answer.specs.declared.Kind.the-variants.{People, LongList, Stranger, Nobody, Open, Clash, Wide, Deal, Holder, Secret, Random}
+use Rattle.answer.specs.declared.Kind.the-variants.{Room, Torn, Long, Unread, Check, Header, Mixed, Conflict, Short, Text}
+use Rattle.answer.specs.declared.Answer.{Answer}
+use Rattle.answer.specs.declared.Answer.the-variants.{Done, Refused}
+
+-- the column "no." of the table of refusals
+abbrev pub number : Kind → ℕ
+number People = 1
+number LongList = 2
+number Stranger = 3
+number Nobody = 4
+number Open = 5
+number Clash = 6
+number Wide = 7
+number Deal = 8
+number Holder = 9
+number Secret = 10
+number Random = 11
+number Room = 12
+number Torn = 13
+number Long = 14
+number Unread = 15
+number Check = 16
+number Header = 17
+number Mixed = 18
+number Conflict = 19
+number Short = 20
+number Text = 21
+
+-- "Each answer is a result or a refusal; a refusal carries its number and two places a and b". What a result is, each call says: A.
+pub data Outcome (A : Type 0) : Type 0 where
+  done : A → Outcome A
+  refused : ℕ → ℕ → ℕ → Outcome A
+
+-- what an answer says
+abbrev pub outcome : Answer → Outcome ℕ
+outcome (Done v) = done v
+outcome (Refused r) = refused (number (r .kind)) (r .a) (r .b)

@@ -1,0 +1,82 @@
+// What every call answers: a result, or a refusal with its kind and two places. Contracts speak of it through `outcome`
+// (specs/Outcome.antt), which gives document 01's number and places for each case.
+ghost use mathlib.Core.Path.{_≡_};
+ghost use Rattle.answer.specs.Outcome.{number, outcome, refused};
+
+// The kinds of refusal, in the order of document 01's table.
+pub enum Kind {
+    People,
+    LongList,
+    Stranger,
+    Nobody,
+    Open,
+    Clash,
+    Wide,
+    Deal,
+    Holder,
+    Secret,
+    Random,
+    Room,
+    Torn,
+    Long,
+    Unread,
+    Check,
+    Header,
+    Mixed,
+    Conflict,
+    Short,
+    Text,
+}
+
+// A refusal carries its kind and two places, 0 unless named.
+pub struct Refusal {
+    pub kind: Kind,
+    pub a: usize,
+    pub b: usize,
+}
+
+// A result and its number (k, blocks, w), or a refusal.
+pub enum Answer {
+    Done(usize),
+    Refused(Refusal),
+}
+
+// Document 01's number of a kind.
+pub fn number_of(k: Kind) -> usize
+    ensures { λ r. ⌜ r ≡ number k ⌝ }
+{
+    match k {
+        Kind::People => 1,
+        Kind::LongList => 2,
+        Kind::Stranger => 3,
+        Kind::Nobody => 4,
+        Kind::Open => 5,
+        Kind::Clash => 6,
+        Kind::Wide => 7,
+        Kind::Deal => 8,
+        Kind::Holder => 9,
+        Kind::Secret => 10,
+        Kind::Random => 11,
+        Kind::Room => 12,
+        Kind::Torn => 13,
+        Kind::Long => 14,
+        Kind::Unread => 15,
+        Kind::Check => 16,
+        Kind::Header => 17,
+        Kind::Mixed => 18,
+        Kind::Conflict => 19,
+        Kind::Short => 20,
+        Kind::Text => 21,
+    }
+}
+
+// The refusal of this kind at these places.
+pub fn refuse(k: Kind, a: usize, b: usize) -> Answer
+    ensures { λ r. ⌜ outcome r ≡ refused (number k) a b ⌝ }
+{
+    Answer::Refused(Refusal {
+        kind: k,
+        a: a,
+        b: b,
+    })
+}
