@@ -1,14 +1,16 @@
 -- The first place with a test: one turn of a search, what is found, what finds it, and one place more at the end.
 -- Assumes nothing.
-use mathlib.Core.Path.{_≡_, refl, sym, ap, subst, _∙_}
-use mathlib.Core.Bool.{Bool, true, false, cond, false≢true}
+use mathlib.Core.Path.{_≡_, refl, sym, ap, ap₂, subst, _∙_}
+use mathlib.Core.Bool.{Bool, true, false, cond, not, false≢true}
 use mathlib.Core.Logic.{⊎-elim, _≢_}
 use mathlib.Core.List.{List}
 use Prim.Native.Nat.{ℕ, zero, suc, _+_, _-_, _≤_, _<_, zero-le}
 use native.Mathlib.Nat.{le-refl, eq-or-lt-of-le}
 use native.Mathlib.Omega.{arith}
+use lib.Dec.{eqb}
 use lib.ListN.{length, getD}
-use Rattle.answer.specs.Places.{firstFrom, firstIn, firstPlace, at}
+use borrow.Author.Tests.{eq-eqb, ne-eqb, eqb-true, not-false}
+use Rattle.answer.specs.Places.{firstFrom, firstIn, found, firstPlace, at}
 use Rattle.answer.specs.Laws.{IsFirst}
 
 -- ---- a search: the loop at place i, with the end e
@@ -237,3 +239,27 @@ module _ (test : ℕ → Bool) (l : List ℕ) where
   pub place-lacks : firstPlace test l ≡ 0 → (i : ℕ) → i < length l → test (getD l i 0) ≡ false
   unfolding firstPlace
   place-lacks z i h = rw (here i) at (none-in (λ k. test (at l k)) 1 (length l + 1) (le-refl 1) z (i + 1) (omega arith) (omega arith))
+
+-- ---- a place was found, or none
+pub found-some : {a : ℕ} → a ≢ 0 → found a ≡ true
+found-some {a} h = ap not (ne-eqb a 0 h)
+
+pub found-none : {a : ℕ} → a ≡ 0 → found a ≡ false
+found-none {a} h = ap not (eq-eqb a 0 h)
+
+pub some-found : (a : ℕ) → found a ≡ true → 1 ≤ a
+some-found zero e = absurd (false≢true e)
+some-found (suc a) e = omega arith
+
+pub none-found : (a : ℕ) → found a ≡ false → a ≡ 0
+none-found a e = eqb-true a 0 (not-false (eqb a 0) e)
+
+-- tests that agree at the places find the same
+same-from : (t u : ℕ → Bool) (n i : ℕ) → ((k : ℕ) → i ≤ k → k < i + n → t k ≡ u k) → firstFrom t i n ≡ firstFrom u i n
+unfolding firstFrom
+same-from t u zero i h = refl
+same-from t u (suc n) i h =
+    ap₂ (λ (b : Bool) (x : ℕ). cond b i x) (h i (le-refl i) (omega arith)) (same-from t u n (i + 1) (λ k l m. h k (omega arith) (omega arith)))
+
+pub first-same : (t u : ℕ → Bool) (i e : ℕ) → ((k : ℕ) → i ≤ k → k < e → t k ≡ u k) → firstIn t i e ≡ firstIn u i e
+first-same t u i e h = same-from t u (e - i) i (λ k l m. h k l (omega arith))
