@@ -102,6 +102,14 @@ module _ (test : ℕ → Bool) (i : ℕ) where
       (sym (length-append (those test i n) (cond (test (i + n)) ((i + n) ∷ []) [])) ∙ e) in
       ⊎-elim (λ (same : s ≡ i + n). ap test same ∙ r .0) (λ (less : s < i + n). those-all n (r .1) s l less) (eq-or-lt-of-le (omega arith))
 
+  -- and where each has the test, all n are there
+  pub those-full : (n : ℕ) → ((s : ℕ) → i ≤ s → s < i + n → test s ≡ true) → length (those test i n) ≡ n
+  unfolding those
+  those-full zero h = refl
+  those-full (suc n) h =
+      rw (h (i + n) (omega arith) (omega arith))
+      (omega (arith, length-append (those test i n) ((i + n) ∷ []), those-full n (λ s l m. h s l (omega arith))))
+
 -- a test that agrees on the numbers gives the same numbers
 pub those-same : (f g : ℕ → Bool) (i n : ℕ) → ((s : ℕ) → i ≤ s → s < i + n → f s ≡ g s) → those f i n ≡ those g i n
 unfolding those
