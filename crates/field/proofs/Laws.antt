@@ -1,0 +1,45 @@
+-- This room's laws, proved: each by its name in specs/Laws.antt. Assumes nothing.
+use mathlib.Core.Path.{_∙_}
+use native.Mathlib.Nat.{pos-of-ne-zero}
+use native.Mathlib.Omega.{arith}
+use lib.ListN.{length}
+use Rattle.field.specs.Laws as law
+use Rattle.field.proofs.Prime as prime
+use Rattle.field.proofs.Unique as unique
+use Rattle.field.proofs.RoundTrip as trip
+use Rattle.field.proofs.Loosened as loosened
+use Rattle.field.proofs.Curve as curve
+use Rattle.field.proofs.Pairing as pairing
+use Rattle.field.proofs.Table as table
+
+pub no-divisor : law.NoDivisor
+no-divisor m h l e = omega (arith, prime.no-divisor m h l)
+
+pub inverse-right : law.InverseRight
+inverse-right a h = (prime.inverse-right a (pos-of-ne-zero h) .same, prime.inverse-below a)
+
+pub joined-one : law.JoinedOne
+joined-one ys b l =
+    let cs = curve.curve (length ys) 1 ys in
+    let t = curve.through-some ys b l in
+    (cs, record { is = t; only = λ ds u. unique.through-one ds cs ys l u t }, unique.joined-value cs ys t ∙ unique.value-start cs (t .below))
+
+pub round-trip : law.RoundTrip
+round-trip = unique.round-trip-one
+
+pub round-trip-words : law.RoundTripWords
+round-trip-words = trip.round-trip
+
+pub loose-some : law.LooseSome
+loose-some k m h l u = (loosened.loose m k, loosened.loose-is k m h l u)
+
+pub paired-some : law.PairedSome
+paired-some k m ds ds′ h l u e =
+    let r = loose-some k m h l u in
+    pairing.paired-by k m (r .0) (r .1) ds ds′ e
+
+pub hidden-gives : law.HiddenGives
+hidden-gives k m v ds ds′ h l u e = pairing.gives-by k m v ds ds′ (paired-some k m ds ds′ h l u e)
+
+pub weights-are : law.WeightsAre
+weights-are = table.table-weights

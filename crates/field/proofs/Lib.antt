@@ -1,0 +1,15 @@
+pub mod Mod
+pub mod Prime
+pub mod RunLaws
+pub mod Degree
+pub mod Sums
+pub mod Horner
+pub mod Unique
+pub mod RoundTrip
+pub mod Loosened
+pub mod Products
+pub mod Curve
+pub mod Table
+pub mod Pairing
+pub mod Laws
+pub mod Cases

@@ -1,0 +1,120 @@
+-- `field::weight_of` meets its contract. The invariant: above and below are the products over the pieces up to i.
+-- Assumes nothing.
+use mathlib.Core.Path.{_≡_, refl, sym, ap, ap₂, subst, _∙_}
+use Prim.Native.Nat.{ℕ, zero-le, _+_, _-_, _*_, _%_, _<_, _≤_}
+use native.Mathlib.Omega.{arith}
+use native.Mathlib.Nat.{mul-le-mul}
+use Rattle.field.specs.Poly.{p}
+use Rattle.field.specs.Inverse.{inverse}
+use Rattle.field.specs.Lagrange.{product, lagrangeWeight}
+use Rattle.field.proofs.Prime.{inverse-below}
+use Rattle.field.proofs.Products.{product-small, product-skip, product-turn, product-apart}
+use Rattle.field.proofs.weight_of.Statement.{statement}
+use Rattle.field.proofs.weight_of.Tie as tie
+
+abbrev Inv-loop : tie.InvT-loop
+Inv-loop k j above₀ below₀ i₀ above below i = (i ≤ k) × (above ≡ product j 0 i) × (below ≡ product j j i)
+
+abbrev μ-loop : tie.MeasureT-loop
+μ-loop k j above₀ below₀ i₀ above below i = k - i
+
+loop-holds : tie.Need-loop-holds Inv-loop μ-loop
+unfolding product
+loop-holds c = (zero-le, refl, refl)
+
+-- both are at most 32748
+small-above : (c : tie.At-loop Inv-loop μ-loop) → c .loop .above ≤ 32748
+small-above c = omega (arith, c .loop .inv .1, product-small (c .before .args .j) 0 (c .loop .i))
+
+small-below : (c : tie.At-loop Inv-loop μ-loop) → c .loop .below ≤ 32748
+small-below c = omega (arith, c .loop .inv .2, product-small (c .before .args .j) (c .before .args .j) (c .loop .i))
+
+add-i : tie.Need-add-i Inv-loop μ-loop
+add-i c = omega arith
+
+mul-above : tie.Need-mul-above Inv-loop μ-loop
+mul-above c =
+    let f : c .before .before .loop .i + 1 ≤ 70 = omega arith in
+    omega (arith, mul-le-mul f (small-above (c .before .before)))
+
+sub-below : tie.Need-sub-below Inv-loop μ-loop
+sub-below c = omega arith
+
+add-below : tie.Need-add-below Inv-loop μ-loop
+add-below c = omega arith
+
+mul-below : tie.Need-mul-below Inv-loop μ-loop
+mul-below c =
+    let f : c .before .before .loop .i + 1 + (32749 - c .before .before .before .args .j) ≤ 32819 = omega arith in
+    omega (arith, mul-le-mul f (small-below (c .before .before)))
+
+loop-less : tie.Need-loop-less Inv-loop μ-loop
+loop-less c = omega arith
+
+loop-again : tie.Need-loop-again Inv-loop μ-loop
+loop-again c =
+    let l = c .before .before .loop in
+    let j = c .before .before .before .args .j in (
+      omega arith,
+      product-turn j 0 (l .i) (l .i + 1) (l .above) (c .if1 .taken) (omega arith) (l .inv .1),
+      product-turn j j (l .i) (l .i + 1 + (32749 - j)) (l .below) (c .if1 .taken) (omega arith) (l .inv .2),
+    )
+
+loop-less-2 : tie.Need-loop-less-2 Inv-loop μ-loop
+loop-less-2 c = omega arith
+
+loop-again-2 : tie.Need-loop-again-2 Inv-loop μ-loop
+loop-again-2 c =
+    let l = c .before .before .loop in
+    let j = c .before .before .before .args .j in
+    (omega arith, product-skip j 0 (l .i) (l .above) (c .if1 .left) (l .inv .1), product-skip j j (l .i) (l .below) (c .if1 .left) (l .inv .2))
+
+cast-invert : tie.Need-cast-invert Inv-loop μ-loop
+cast-invert c = omega (arith, small-below (c .before))
+
+invert-requires : tie.Need-invert-requires Inv-loop μ-loop
+invert-requires c κs =
+    let j = c .before .before .args .j in
+    subst (λ (x : ℕ). 0 < x % p) (sym (c .before .loop .inv .2)) (product-apart j j (c .before .loop .i) (omega arith) (omega arith) (λ i a b f. f))
+
+cast-result : tie.Need-cast-result Inv-loop μ-loop
+cast-result c = omega arith
+
+mul-result : tie.Need-mul-result Inv-loop μ-loop
+mul-result c =
+    let b : c .invert .result ≤ 32748 = omega (arith, c .invert .ensures, inverse-below (c .before .before .loop .below)) in
+    omega (arith, mul-le-mul (small-above (c .before .before)) b)
+
+cast-result-2 : tie.Need-cast-result-2 Inv-loop μ-loop
+cast-result-2 c = omega arith
+
+returns : tie.Need-returns Inv-loop μ-loop
+unfolding lagrangeWeight
+returns c =
+    let l = c .before .before .loop in
+    let j = c .before .before .before .args .j in
+    let e : l .i ≡ c .before .before .before .args .k = omega arith in
+    ap₂ (λ (x y : ℕ). x * y % p) (l .inv .1 ∙ ap (product j 0) e) (c .invert .ensures ∙ ap inverse (l .inv .2 ∙ ap (product j j) e))
+
+pub weight-of-spec : {M : Type 1} → statement M
+weight-of-spec =
+    tie.close
+    (tie.spec
+    Inv-loop
+    μ-loop
+    loop-holds
+    add-i
+    mul-above
+    sub-below
+    add-below
+    mul-below
+    loop-less
+    loop-again
+    loop-less-2
+    loop-again-2
+    cast-invert
+    invert-requires
+    cast-result
+    mul-result
+    cast-result-2
+    returns)

@@ -1,0 +1,60 @@
+-- `field::weights` meets its contract. The invariant: the weights of pieces 1 to j are in their places, and 0 past them.
+-- Assumes nothing.
+use Prim.Native.Nat.{_-_, _≤_, zero-le}
+use native.Mathlib.Omega.{arith}
+use Rattle.field.proofs.Table.{Filled, filled-start, filled-turn, filled-end}
+use Rattle.field.proofs.weights.Statement.{statement}
+use Rattle.field.proofs.weights.Tie as tie
+
+abbrev Inv-loop : tie.InvT-loop
+Inv-loop k table₀ j₀ table j = (j ≤ k) × Filled k j table
+
+abbrev μ-loop : tie.MeasureT-loop
+μ-loop k table₀ j₀ table j = k - j
+
+loop-holds : tie.Need-loop-holds Inv-loop μ-loop
+loop-holds c = (zero-le, filled-start (c .args .k))
+
+add-weight-of : tie.Need-add-weight-of Inv-loop μ-loop
+add-weight-of c = omega arith
+
+weight-of-requires : tie.Need-weight-of-requires Inv-loop μ-loop
+weight-of-requires c κs = omega arith
+
+mul-table : tie.Need-mul-table Inv-loop μ-loop
+mul-table c = omega arith
+
+array-write-table : tie.Need-array-write-table Inv-loop μ-loop
+array-write-table c = omega arith
+
+add-j : tie.Need-add-j Inv-loop μ-loop
+add-j c = omega arith
+
+loop-less : tie.Need-loop-less Inv-loop μ-loop
+loop-less c = omega arith
+
+loop-again : tie.Need-loop-again Inv-loop μ-loop
+loop-again c =
+    let l = c .before .before in
+    (omega arith, filled-turn (l .before .args .k) (l .loop .j) (c .weight-of .result) (l .loop .table) (omega arith) (c .weight-of .ensures) (l .loop .inv .1))
+
+returns : tie.Need-returns Inv-loop μ-loop
+returns c =
+    let l = c .before in
+    filled-end (l .before .args .k) (l .loop .j) (l .loop .table) (omega arith) (l .loop .inv .1)
+
+pub weights-spec : {M : Type 1} → statement M
+weights-spec =
+    tie.close
+    (tie.spec
+    Inv-loop
+    μ-loop
+    loop-holds
+    add-weight-of
+    weight-of-requires
+    mul-table
+    array-write-table
+    add-j
+    loop-less
+    loop-again
+    returns)

@@ -1,0 +1,59 @@
+-- The laws that this room owes; their proofs are in proofs/Laws.antt.
+-- Assumes nothing.
+use mathlib.Core.Path.{_≡_}
+use mathlib.Core.Logic.{_≢_}
+use mathlib.Core.List.{List, _∷_}
+use Prim.Native.Nat.{ℕ, _-_, _*_, _%_, _≤_, _<_}
+use lib.ListN.{length, getD}
+use Rattle.field.specs.Poly.{p, Below, value, piece, run, Through, One}
+use Rattle.field.specs.Pieces.{values, Random, Matched, Paired, Gives}
+use Rattle.field.specs.Joined.{joined}
+use Rattle.field.specs.Inverse.{inverse}
+use Rattle.field.specs.Lagrange.{Weights, weightsOf}
+
+-- 32749 has no divisor but 1 and itself.
+abbrev pub NoDivisor : Type 0
+NoDivisor = (m : ℕ) → 1 < m → m < p → p % m ≢ 0
+
+-- Every number that p does not divide has its inverse, which is one of 0 to 32748.
+abbrev pub InverseRight : Type 0
+InverseRight = (a : ℕ) → a % p ≢ 0 → (a * inverse a % p ≡ 1) × (inverse a < p)
+
+-- "Each secret word is the value at 0 of the one polynomial of degree below k through (1, piece 1) to (k, piece k)": for any k pieces there
+-- is one such polynomial and no other, and the joined word is its value at 0.
+abbrev pub JoinedOne : Type 0
+JoinedOne = (ys : List ℕ) → Below ys → length ys < p → (cs : List ℕ) × One (λ ds. Through ds ys) cs × (joined ys ≡ value cs 0)
+
+-- Joining the k pieces of the word d gives d, whatever its k−1 coefficients are.
+abbrev pub RoundTrip : Type 0
+RoundTrip = (d : ℕ) (cs : List ℕ) → Below (d ∷ cs) → joined (run (piece d cs) 1 (length (d ∷ cs))) ≡ d
+
+-- And so word by word: joining the values i of all k pieces of a secret gives word i.
+abbrev pub RoundTripWords : Type 0
+RoundTripWords = (k : ℕ) (ds rs : List ℕ) → 1 ≤ k → Below ds → Random (length ds) k rs
+    → (i : ℕ) → 1 ≤ i → i ≤ length ds → joined (run (λ j. getD (values (k - 1) ds rs j) (i - 1) 0) 1 k) ≡ getD ds (i - 1) 0
+
+-- the polynomial 1 + c₁·x + c₂·x² + .. of degree below k, with the cs for its c₁, c₂, .., is 1 at 0 and 0 at every piece of 1 to k but m
+pub record Loose (k m : ℕ) (cs : List ℕ) : Type 0 where
+  pub degree : length (1 ∷ cs) ≡ k
+  pub below : Below cs
+  pub none : (j : ℕ) → 1 ≤ j → j ≤ k → j ≢ m → value (1 ∷ cs) j % p ≡ 0
+
+-- For every piece m there is such a polynomial: added to a deal, it changes the secret and, of the pieces, piece m alone.
+abbrev pub LooseSome : Type 0
+LooseSome = (k m : ℕ) → k < p → 1 ≤ m → m ≤ k → (cs : List ℕ) × Loose k m cs
+
+-- "for every other secret of as many words a map of randomness to randomness with its inverse, both keeping the range and the count", under
+-- which every piece but m keeps its values.
+abbrev pub PairedSome : Type 0
+PairedSome = (k m : ℕ) (ds ds′ : List ℕ) → k < p → 1 ≤ m → m ≤ k → length ds ≡ length ds′ → Paired k m ds ds′
+
+-- So whoever lacks a piece can rule out no secret, nor find one likelier: whatever values the other pieces have, any two secrets of as many
+-- words have equally many lists of randomness that give them.
+abbrev pub HiddenGives : Type 0
+HiddenGives = (k m : ℕ) (v : ℕ → List ℕ) (ds ds′ : List ℕ) → k < p → 1 ≤ m → m ≤ k → length ds ≡ length ds′
+    → Matched (Gives k m v ds) (Gives k m v ds′)
+
+-- The table of weights has the weight of each piece in its place.
+abbrev pub WeightsAre : Type 0
+WeightsAre = (k : ℕ) → Weights k (weightsOf k)

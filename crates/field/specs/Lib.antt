@@ -1,0 +1,6 @@
+pub mod Poly
+pub mod Pieces
+pub mod Joined
+pub mod Inverse
+pub mod Lagrange
+pub mod Laws

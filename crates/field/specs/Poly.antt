@@ -1,0 +1,44 @@
+-- Document 01, "From secret to pieces", for one word: polynomials mod 32749, their values and their pieces.
+-- Assumes nothing.
+use mathlib.Core.Path.{_≡_}
+use mathlib.Core.List.{List, [], _∷_}
+use Prim.Native.Nat.{ℕ, zero, suc, _+_, _-_, _*_, _%_, _≤_, _<_}
+use lib.ListN.{length, getD}
+
+-- "prime p | 32749"
+abbrev pub p : ℕ
+p = 32749
+
+-- each number of the list is one of 0 to 32748 (past its end a list reads 0)
+pub record Below (cs : List ℕ) : Type 0 where
+  pub each : (i : ℕ) → getD cs i 0 < p
+
+-- c₀ + c₁·x + c₂·x² + ..: the value at x of the polynomial with these coefficients, the lowest first, not reduced
+unfoldable pub value : List ℕ → ℕ → ℕ
+value [] x = 0
+value (c ∷ cs) x = c + x * value cs x
+
+-- "Piece j of that word is d + a1·j + a2·j² + .. + a(k−1)·j^(k−1) mod p": the word d, the coefficients cs. Every coefficient, the
+-- highest too, may be zero.
+abbrev pub piece : ℕ → List ℕ → ℕ → ℕ
+piece d cs j = value (d ∷ cs) j % p
+
+-- f x, f (x + 1), .., n of them
+unfoldable pub run : (ℕ → ℕ) → ℕ → ℕ → List ℕ
+run f x zero = []
+run f x (suc n) = f x ∷ run f (suc x) n
+
+-- the values mod p at x, x + 1, .., n of them, of the polynomial cs
+abbrev pub points : List ℕ → ℕ → ℕ → List ℕ
+points cs x n = run (λ j. value cs j % p) x n
+
+-- cs is a polynomial of degree below k "through (1, piece 1) to (k, piece k)", where ys are the k pieces: k coefficients
+pub record Through (cs ys : List ℕ) : Type 0 where
+  pub degree : length cs ≡ length ys
+  pub below : Below cs
+  pub meets : (j : ℕ) → 1 ≤ j → j ≤ length ys → getD ys (j - 1) 0 ≡ value cs j % p
+
+-- cs is the one list with A
+pub record One (A : List ℕ → Type 0) (cs : List ℕ) : Type 0 where
+  pub is : A cs
+  pub only : (ds : List ℕ) → A ds → ds ≡ cs

@@ -1,0 +1,95 @@
+// Arithmetic mod 32749: the pieces of a word, the modular inverse, and joining one word by Lagrange's formula.
+// No value above 32748 enters a sum: where one could, a `requires` says so and every caller shows it.
+ghost use mathlib.Core.Path.{_≡_};
+ghost use mathlib.Core.List.{_∷_};
+ghost use Prim.Native.Nat.{_%_, _<_, _≤_};
+ghost use lib.ListN.{length};
+ghost use Rattle.field.specs.Poly.{p, Below, value, piece};
+ghost use Rattle.field.specs.Joined.{joined};
+ghost use Rattle.field.specs.Inverse.{inverse};
+ghost use Rattle.field.specs.Lagrange.{lagrangeWeight, Weights, weightsOf};
+
+// The value at x of the polynomial with these coefficients, the lowest first: Horner's rule, from the highest down.
+fn value_at(coefficients: &[u16], x: u16) -> u32
+    requires { ⌜ Below (now coefficients) ⌝ }
+    ensures { λ r. ⌜ r ≡ value (now (coefficients .entry)) x % p ⌝ }
+{
+    let mut acc: u32 = 0;
+    let mut i = coefficients.len();
+    while 0 < i {
+        i -= 1;
+        acc = (acc * (x as u32) + coefficients[i] as u32) % 32749;
+    }
+    acc
+}
+
+// Piece j of the word d with these coefficients.
+pub fn piece_of(d: u16, coefficients: &[u16], j: u16) -> u16
+    requires { ⌜ Below (d ∷ now coefficients) ⌝ }
+    ensures { λ r. ⌜ r ≡ piece d (now (coefficients .entry)) j ⌝ }
+{
+    ((value_at(coefficients, j) * (j as u32) + d as u32) % 32749) as u16
+}
+
+// The inverse of a, by the remainders of 32749.
+pub fn invert(a: u16) -> u16
+    requires { ⌜ 0 < a % p ⌝ }
+    ensures { λ r. ⌜ r ≡ inverse a ⌝ }
+{
+    let mut r: u32 = (a as u32) % 32749;
+    let mut s: u32 = 1;
+    while 1 < r {
+        let q = 32749 / r;
+        s = s * (32749 - q) % 32749;
+        r = 32749 % r;
+    }
+    s as u16
+}
+
+// The weight of piece j of k: the product of i / (i - j) over the other pieces i.
+fn weight_of(k: usize, j: usize) -> u16
+    requires { ⌜ (1 ≤ j) × (j ≤ k) × (k ≤ 70) ⌝ }
+    ensures { λ r. ⌜ r ≡ lagrangeWeight k j ⌝ }
+{
+    let mut above: usize = 1;
+    let mut below: usize = 1;
+    let mut i: usize = 0;
+    while i < k {
+        i += 1;
+        if i != j {
+            above = i * above % 32749;
+            below = (i + (32749 - j)) * below % 32749;
+        }
+    }
+    (above * (invert(below as u16) as usize) % 32749) as u16
+}
+
+// The weights of pieces 1 to k, that of piece j at j - 1, and 0 past them.
+pub fn weights(k: usize) -> [u16; 70]
+    requires { ⌜ k ≤ 70 ⌝ }
+    ensures { λ r. ⌜ r ≡ weightsOf k ⌝ }
+{
+    let mut table = [0u16; 70];
+    let mut j: usize = 0;
+    while j < k {
+        table[j] = weight_of(k, j + 1);
+        j += 1;
+    }
+    table
+}
+
+// The secret word of these pieces: the sum of the pieces, each times its weight.
+pub fn join_word(pieces: &[u16], weights: &[u16; 70]) -> u16
+    requires { ⌜ length (now pieces) ≤ 70 ⌝ }
+    requires { ⌜ Below (now pieces) ⌝ }
+    requires { ⌜ Weights (length (now pieces)) (now weights) ⌝ }
+    ensures { λ r. ⌜ r ≡ joined (now (pieces .entry)) ⌝ }
+{
+    let mut sum: u64 = 0;
+    let mut i: usize = 0;
+    while i < pieces.len() {
+        sum += (pieces[i] as u64) * (weights[i] as u64);
+        i += 1;
+    }
+    (sum % 32749) as u16
+}
