@@ -1,11 +1,13 @@
 -- This room's laws, proved: each by its name in specs/Laws.antt. Assumes nothing.
 use mathlib.Core.Path.{_∙_}
 use native.Mathlib.Nat.{pos-of-ne-zero}
+use Prim.Native.Nat.{_-_}
 use native.Mathlib.Omega.{arith}
 use lib.ListN.{length}
 use Rattle.field.specs.Laws as law
 use Rattle.field.proofs.Prime as prime
 use Rattle.field.proofs.Unique as unique
+use Rattle.field.proofs.ValuesLaws as values
 use Rattle.field.proofs.RoundTrip as trip
 use Rattle.field.proofs.Loosened as loosened
 use Rattle.field.proofs.Curve as curve
@@ -17,6 +19,12 @@ no-divisor m h l e = omega (arith, prime.no-divisor m h l)
 
 pub inverse-right : law.InverseRight
 inverse-right a h = (prime.inverse-right a (pos-of-ne-zero h) .same, prime.inverse-below a)
+
+pub values-at : law.ValuesAt
+values-at q ds rs j i l h = values.values-at q ds rs j (i - 1) (omega arith)
+
+pub values-fit : law.ValuesFit
+values-fit q ds rs j = (values.values-length q ds rs j, values.values-below q ds rs j)
 
 pub joined-one : law.JoinedOne
 joined-one ys b l =

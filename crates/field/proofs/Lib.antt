@@ -5,6 +5,7 @@ pub mod Degree
 pub mod Sums
 pub mod Horner
 pub mod Unique
+pub mod ValuesLaws
 pub mod RoundTrip
 pub mod Loosened
 pub mod Products

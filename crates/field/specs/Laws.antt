@@ -4,7 +4,7 @@ use mathlib.Core.Path.{_≡_}
 use mathlib.Core.Logic.{_≢_}
 use mathlib.Core.List.{List, _∷_}
 use Prim.Native.Nat.{ℕ, _-_, _*_, _%_, _≤_, _<_}
-use lib.ListN.{length, getD}
+use lib.ListN.{length, getD, take, drop}
 use Rattle.field.specs.Poly.{p, Below, value, piece, run, Through, One}
 use Rattle.field.specs.Pieces.{values, Random, Matched, Paired, Gives}
 use Rattle.field.specs.Joined.{joined}
@@ -18,6 +18,16 @@ NoDivisor = (m : ℕ) → 1 < m → m < p → p % m ≢ 0
 -- Every number that p does not divide has its inverse, which is one of 0 to 32748.
 abbrev pub InverseRight : Type 0
 InverseRight = (a : ℕ) → a % p ≢ 0 → (a * inverse a % p ≡ 1) × (inverse a < p)
+
+-- "taken in order from the lent randomness: those of word 1 first, then word 2": with q coefficients for each, word i has those after the
+-- first (i−1)·q.
+abbrev pub ValuesAt : Type 0
+ValuesAt = (q : ℕ) (ds rs : List ℕ) (j i : ℕ) → 1 ≤ i → i ≤ length ds
+    → getD (values q ds rs j) (i - 1) 0 ≡ piece (getD ds (i - 1) 0) (take q (drop ((i - 1) * q) rs)) j
+
+-- A piece has a value for each secret word, and each is one of 0 to 32748.
+abbrev pub ValuesFit : Type 0
+ValuesFit = (q : ℕ) (ds rs : List ℕ) (j : ℕ) → (length (values q ds rs j) ≡ length ds) × Below (values q ds rs j)
 
 -- "Each secret word is the value at 0 of the one polynomial of degree below k through (1, piece 1) to (k, piece k)": for any k pieces there
 -- is one such polynomial and no other, and the joined word is its value at 0.
@@ -43,13 +53,13 @@ pub record Loose (k m : ℕ) (cs : List ℕ) : Type 0 where
 abbrev pub LooseSome : Type 0
 LooseSome = (k m : ℕ) → k < p → 1 ≤ m → m ≤ k → (cs : List ℕ) × Loose k m cs
 
--- "for every other secret of as many words a map of randomness to randomness with its inverse, both keeping the range and the count", under
--- which every piece but m keeps its values.
+-- Demand 3's "pairing of randomness with randomness is one to one": whichever piece m is lacking, and for any two secrets of as many words,
+-- there is one, with its inverse, under which every other piece has the same values.
 abbrev pub PairedSome : Type 0
 PairedSome = (k m : ℕ) (ds ds′ : List ℕ) → k < p → 1 ≤ m → m ≤ k → length ds ≡ length ds′ → Paired k m ds ds′
 
--- So whoever lacks a piece can rule out no secret, nor find one likelier: whatever values the other pieces have, any two secrets of as many
--- words have equally many lists of randomness that give them.
+-- "so with even randomness the cards favour no secret": whatever values the pieces but m have, any two secrets of as many words have equally
+-- many lists of randomness that give them.
 abbrev pub HiddenGives : Type 0
 HiddenGives = (k m : ℕ) (v : ℕ → List ℕ) (ds ds′ : List ℕ) → k < p → 1 ≤ m → m ≤ k → length ds ≡ length ds′
     → Matched (Gives k m v ds) (Gives k m v ds′)

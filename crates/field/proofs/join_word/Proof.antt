@@ -20,7 +20,7 @@ product : (c : tie.In-loop Inv-loop μ-loop)
     → getD (c .before .before .args .pieces .now) (c .before .loop .i) 0 * getD (c .before .before .args .weights .now) (c .before .loop .i) 0 ≤ 1072431504
 product c =
     let s = c .before .before in
-    product-most (s .args .pieces .now) (s .args .weights .now) (c .before .loop .i) (c .loop-test .taken) (s .pre .1 .0) (s .pre .1 .1)
+    product-most (s .args .pieces .now) (s .args .weights .now) (c .before .loop .i) (omega arith) (s .pre .1 .0) (s .pre .1 .1)
 
 mul-sum : tie.Need-mul-sum Inv-loop μ-loop
 mul-sum c = omega arith
@@ -40,7 +40,7 @@ element-copy-out-sum c = omega arith
 cast-sum-2 : tie.Need-cast-sum-2 Inv-loop μ-loop
 cast-sum-2 c =
     let s = c .before .before .before .before in
-    let b = weight-most (length (s .args .pieces .now)) (c .before .before .before .loop .i) (s .args .weights .now) (c .before .before .loop-test .taken) (s .pre .1 .1) in
+    let b = weight-most (length (s .args .pieces .now)) (c .before .before .before .loop .i) (s .args .weights .now) (omega arith) (s .pre .1 .1) in
     omega arith
 
 mul-sum-3 : tie.Need-mul-sum-3 Inv-loop μ-loop
@@ -60,7 +60,7 @@ loop-again c =
     let l = c .before .before .before .loop in
     let s = c .before .before .before .before in (
       omega arith,
-      summed-turn (s .args .pieces .now) (s .args .weights .now) (l .i) (l .sum) (c .before .before .loop-test .taken) (s .pre .1 .0) (s .pre .1 .1) (l .inv .1),
+      summed-turn (s .args .pieces .now) (s .args .weights .now) (l .i) (l .sum) (omega arith) (s .pre .1 .0) (s .pre .1 .1) (l .inv .1),
     )
 
 cast-result : tie.Need-cast-result Inv-loop μ-loop

@@ -50,7 +50,7 @@ loop-again : tie.Need-loop-again Inv-loop μ-loop
 loop-again c =
     let l = c .before .before .loop in
     let a = c .before .before .before .args in
-    (omega arith, horner (a .coefficients .now) (a .x) (l .i) (l .acc) (c .before .loop-test .taken) (l .inv .0) (l .inv .1))
+    (omega arith, horner (a .coefficients .now) (a .x) (l .i) (l .acc) (omega arith) (l .inv .0) (l .inv .1))
 
 returns : tie.Need-returns Inv-loop μ-loop
 returns c =

@@ -1,9 +1,11 @@
 -- `field::weight_of` meets its contract. The invariant: above and below are the products over the pieces up to i.
 -- Assumes nothing.
 use mathlib.Core.Path.{_≡_, refl, sym, ap, ap₂, subst, _∙_}
-use Prim.Native.Nat.{ℕ, zero-le, _+_, _-_, _*_, _%_, _<_, _≤_}
+use Prim.Native.Nat.{ℕ, zero-le, _-_, _*_, _%_, _<_, _≤_}
 use native.Mathlib.Omega.{arith}
 use native.Mathlib.Nat.{mul-le-mul}
+use mir.Syntax.{w64}
+use mir.Val.{Fits}
 use Rattle.field.specs.Poly.{p}
 use Rattle.field.specs.Inverse.{inverse}
 use Rattle.field.specs.Lagrange.{product, lagrangeWeight}
@@ -29,13 +31,15 @@ small-above c = omega (arith, c .loop .inv .1, product-small (c .before .args .j
 small-below : (c : tie.At-loop Inv-loop μ-loop) → c .loop .below ≤ 32748
 small-below c = omega (arith, c .loop .inv .2, product-small (c .before .args .j) (c .before .args .j) (c .loop .i))
 
+-- a factor times one of them
+fits : (f b : ℕ) → f ≤ 32819 → b ≤ 32748 → Fits w64 (f * b)
+fits f b h k = omega (arith, mul-le-mul h k)
+
 add-i : tie.Need-add-i Inv-loop μ-loop
 add-i c = omega arith
 
 mul-above : tie.Need-mul-above Inv-loop μ-loop
-mul-above c =
-    let f : c .before .before .loop .i + 1 ≤ 70 = omega arith in
-    omega (arith, mul-le-mul f (small-above (c .before .before)))
+mul-above c = fits _ _ (omega arith) (small-above (c .before .before))
 
 sub-below : tie.Need-sub-below Inv-loop μ-loop
 sub-below c = omega arith
@@ -44,9 +48,7 @@ add-below : tie.Need-add-below Inv-loop μ-loop
 add-below c = omega arith
 
 mul-below : tie.Need-mul-below Inv-loop μ-loop
-mul-below c =
-    let f : c .before .before .loop .i + 1 + (32749 - c .before .before .before .args .j) ≤ 32819 = omega arith in
-    omega (arith, mul-le-mul f (small-below (c .before .before)))
+mul-below c = fits _ _ (omega arith) (small-below (c .before .before))
 
 loop-less : tie.Need-loop-less Inv-loop μ-loop
 loop-less c = omega arith
@@ -56,8 +58,8 @@ loop-again c =
     let l = c .before .before .loop in
     let j = c .before .before .before .args .j in (
       omega arith,
-      product-turn j 0 (l .i) (l .i + 1) (l .above) (c .if1 .taken) (omega arith) (l .inv .1),
-      product-turn j j (l .i) (l .i + 1 + (32749 - j)) (l .below) (c .if1 .taken) (omega arith) (l .inv .2),
+      product-turn j 0 (l .i) _ (l .above) (c .if1 .taken) (omega arith) (l .inv .1),
+      product-turn j j (l .i) _ (l .below) (c .if1 .taken) (omega arith) (l .inv .2),
     )
 
 loop-less-2 : tie.Need-loop-less-2 Inv-loop μ-loop
@@ -83,7 +85,7 @@ cast-result c = omega arith
 mul-result : tie.Need-mul-result Inv-loop μ-loop
 mul-result c =
     let b : c .invert .result ≤ 32748 = omega (arith, c .invert .ensures, inverse-below (c .before .before .loop .below)) in
-    omega (arith, mul-le-mul (small-above (c .before .before)) b)
+    fits _ _ (omega (arith, small-above (c .before .before))) b
 
 cast-result-2 : tie.Need-cast-result-2 Inv-loop μ-loop
 cast-result-2 c = omega arith
