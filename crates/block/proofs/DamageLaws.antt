@@ -1,0 +1,165 @@
+-- A true block with one word changed, or with two unequal words of the first 255 exchanged, is refused: UNREAD where the new word is
+-- above 32748, else CHECK, since mod 32749 no factor from 1 to 255 is lost. Assumes nothing.
+use mathlib.Core.Path.{_≡_, refl, sym, ap, _∙_}
+use mathlib.Core.Bool.{Bool, true, false, cond}
+use mathlib.Core.Logic.{_⊎_, inl, inr, ⊎-elim, _≢_}
+use mathlib.Core.List.{List}
+use Prim.Native.Nat.{ℕ, _+_, _-_, _*_, _%_, _≤_, _<_}
+use native.Mathlib.Nat.{eq-or-lt-of-le, add-mul}
+use native.Mathlib.Omega.{arith}
+use lib.Dec.{eqb}
+use lib.ListN.{length}
+use borrow.Author.Tests.{eqb-true, eqb-false, eq-eqb, ne-eqb}
+use Rattle.answer.specs.Outcome.{done, refused}
+use Rattle.block.specs.Words.{wordAt, putAt, weighted, checkOf, Small}
+use Rattle.block.specs.Layout.{headerOf}
+use Rattle.block.specs.Open.{opening, TrueBlock}
+use Rattle.block.proofs.WordLaws.{length-put, word-put-same, word-put-other}
+use Rattle.block.proofs.SumLaws.{check-same, one-differs}
+use Rattle.block.proofs.PrimeLaws.{cancel, add-cancel}
+use Rattle.block.proofs.OpenLaws.{small-of, of-small, says-unread, says-check, opening-block}
+
+same-or-not : (k i : ℕ) → (k ≡ i) ⊎ (k ≢ i)
+same-or-not k i = go (eqb k i) refl
+  where
+    go : (x : Bool) → eqb k i ≡ x → (k ≡ i) ⊎ (k ≢ i)
+    go true e = inl (eqb-true k i e)
+    go false e = inr (eqb-false k i e)
+
+-- ---- what opening answers of a block whose check is wrong, and of one with a word above 32748
+by-check : (b : List ℕ) → 512 ≤ length b → Small b 256 → checkOf b ≢ wordAt b 256 → opening b ≡ refused 16 1 0
+by-check b l s h = opening-block b l ∙ says-check b 1 (done (headerOf b)) (of-small b s) h
+
+by-unread : (b : List ℕ) (i : ℕ) → 512 ≤ length b → 1 ≤ i → i ≤ 256 → 32748 < wordAt b i → opening b ≡ refused 15 1 0
+by-unread b i l from to h =
+    opening-block b l ∙ says-unread b 1 (done (headerOf b)) (λ z. omega (arith, small-of b z .small i from to))
+
+-- ---- word i of the true block b is changed, which gives c
+module _ (b c : List ℕ) (i : ℕ) (from : 1 ≤ i) (to : i ≤ 256)
+    (same : (k : ℕ) → 1 ≤ k → k ≤ 256 → k ≢ i → wordAt c k ≡ wordAt b k) (other : wordAt c i ≢ wordAt b i)
+    (true-b : TrueBlock b) (low : wordAt c i ≤ 32748) where
+  changed-small : Small c 256
+  changed-small =
+      record {
+        small = λ k l h.
+            ⊎-elim (λ (e : k ≡ i). rw e low) (λ (off : k ≢ i). rw (same k l h off) (true-b .clean .small k l h)) (same-or-not k i);
+      }
+
+  -- were the check right, the two sums would have equal remainders
+  in-the-sum : i ≤ 255 → checkOf c ≢ wordAt c 256
+  unfolding checkOf
+  in-the-sum h e =
+      let agree : weighted (wordAt c) 255 % 32749 ≡ weighted (wordAt b) 255 % 32749 =
+      e ∙ same 256 (omega arith) (omega arith) (λ q. omega arith) ∙ sym (true-b .sum) in
+      let sums = one-differs (wordAt b) (wordAt c) i 255 from h (λ k l m ne. same k l (omega arith) ne) in
+      let r = add-cancel (weighted (wordAt c) 255) (weighted (wordAt b) 255) (i * wordAt b i) (i * wordAt c i) agree sums in
+      other (sym (cancel i (wordAt b i) (wordAt c i) from (omega arith) (true-b .clean .small i from to) low r))
+
+  in-the-check : i ≡ 256 → checkOf c ≢ wordAt c 256
+  in-the-check q e =
+      other (rw q (sym e ∙ check-same c b (λ k l m. same k l (omega arith) (λ z. omega arith)) ∙ true-b .sum))
+
+  changed-check : checkOf c ≢ wordAt c 256
+  changed-check = ⊎-elim in-the-check (λ less. in-the-sum (omega arith)) (eq-or-lt-of-le to)
+
+pub changed : (b : List ℕ) (i v : ℕ) → TrueBlock b → 1 ≤ i → i ≤ 256 → v ≢ wordAt b i
+    → (32748 < v → opening (putAt b i v) ≡ refused 15 1 0) × (v ≤ 32748 → opening (putAt b i v) ≡ refused 16 1 0)
+changed b i v t l h ne =
+    let c = putAt b i v in
+    let room : 2 * i ≤ length b = omega (arith, t .long) in
+    let long : 512 ≤ length c = rw (length-put b i v) (t .long) in
+    let new : wordAt c i ≡ v = word-put-same b i v l room in
+    let same : (k : ℕ) → 1 ≤ k → k ≤ 256 → k ≢ i → wordAt c k ≡ wordAt b k = λ k m q off. word-put-other b i v l room k m off in
+    let other : wordAt c i ≢ wordAt b i = λ e. ne (sym new ∙ e) in (
+      λ high. by-unread c i long l h (omega arith),
+      λ low.
+          let low-c : wordAt c i ≤ 32748 = omega arith in
+          by-check c long (changed-small b c i l h same other t low-c) (changed-check b c i l h same other t low-c),
+    )
+
+-- ---- words i and j of the first 255 of the true block b, unequal, are exchanged, which gives c
+module _ (b c : List ℕ) (i j : ℕ) (from : 1 ≤ i) (order : i < j) (to : j ≤ 255)
+    (same : (k : ℕ) → 1 ≤ k → k ≤ 256 → k ≢ i → k ≢ j → wordAt c k ≡ wordAt b k) (at-i : wordAt c i ≡ wordAt b j) (at-j : wordAt c j ≡ wordAt b i)
+    (other : wordAt b i ≢ wordAt b j) (true-b : TrueBlock b) where
+  exchanged-small : Small c 256
+  exchanged-small =
+      record {
+        small = λ k l h.
+            ⊎-elim
+            (λ (e : k ≡ i). rw (e, at-i) (true-b .clean .small j (omega arith) (omega arith)))
+            (λ (off : k ≢ i).
+            ⊎-elim (λ (e : k ≡ j). rw (e, at-j) (true-b .clean .small i from (omega arith)))
+            (λ (off-j : k ≢ j). rw (same k l h off off-j) (true-b .clean .small k l h))
+            (same-or-not k j))
+            (same-or-not k i);
+      }
+
+  -- the words with word i changed alone
+  half : ℕ → ℕ
+  half k = cond (eqb k i) (wordAt b j) (wordAt b k)
+
+  half-at : half i ≡ wordAt b j
+  unfolding half
+  half-at = rw (eq-eqb i i refl)
+
+  half-off : (k : ℕ) → k ≢ i → half k ≡ wordAt b k
+  unfolding half
+  half-off k ne = rw (ne-eqb k i ne)
+
+  first : weighted half 255 + i * wordAt b i ≡ weighted (wordAt b) 255 + i * wordAt b j
+  first =
+      one-differs (wordAt b) half i 255 from (omega arith) (λ k l m ne. half-off k ne)
+      ∙ ap (λ (v : ℕ). weighted (wordAt b) 255 + i * v) half-at
+
+  rest : (k : ℕ) → 1 ≤ k → k ≤ 255 → k ≢ j → wordAt c k ≡ half k
+  rest k l m ne =
+      ⊎-elim
+      (λ (e : k ≡ i). rw e (at-i ∙ sym half-at))
+      (λ (off : k ≢ i). same k l (omega arith) off ne ∙ sym (half-off k off))
+      (same-or-not k i)
+
+  second : weighted (wordAt c) 255 + j * wordAt b j ≡ weighted half 255 + j * wordAt b i
+  second =
+      ap (λ (v : ℕ). weighted (wordAt c) 255 + j * v) (sym (half-off j (λ e. omega arith)))
+      ∙ one-differs half (wordAt c) j 255 (omega arith) to rest
+      ∙ ap (λ (v : ℕ). weighted half 255 + j * v) at-j
+
+  joined : (ix iy jx jy dx dy : ℕ) → weighted half 255 + ix ≡ weighted (wordAt b) 255 + iy → weighted (wordAt c) 255 + jy ≡ weighted half 255 + jx
+      → jx ≡ ix + dx → jy ≡ iy + dy → weighted (wordAt c) 255 + dy ≡ weighted (wordAt b) 255 + dx
+  joined ix iy jx jy dx dy p q u v = omega arith
+
+  -- the sums differ by j - i times the words' difference
+  apart : weighted (wordAt c) 255 + (j - i) * wordAt b j ≡ weighted (wordAt b) 255 + (j - i) * wordAt b i
+  apart =
+      let d : i + (j - i) ≡ j = omega arith in
+      let part : (z : ℕ) → j * z ≡ i * z + (j - i) * z = λ z. ap (λ (n : ℕ). n * z) (sym d) ∙ add-mul i (j - i) z in
+      let x = wordAt b i in
+      let y = wordAt b j in
+      joined (i * x) (i * y) (j * x) (j * y) ((j - i) * x) ((j - i) * y) first second (part x) (part y)
+
+  exchanged-check : checkOf c ≢ wordAt c 256
+  unfolding checkOf
+  exchanged-check e =
+      let agree : weighted (wordAt c) 255 % 32749 ≡ weighted (wordAt b) 255 % 32749 =
+      e ∙ same 256 (omega arith) (omega arith) (λ q. omega arith) (λ q. omega arith) ∙ sym (true-b .sum) in
+      let x = wordAt b i in
+      let y = wordAt b j in
+      let r = add-cancel (weighted (wordAt c) 255) (weighted (wordAt b) 255) ((j - i) * y) ((j - i) * x) agree apart in
+      other
+      (sym (cancel (j - i) y x (omega arith) (omega arith)
+      (true-b .clean .small j (omega arith) (omega arith)) (true-b .clean .small i from (omega arith)) r))
+
+pub exchanged : (b : List ℕ) (i j : ℕ) → TrueBlock b → 1 ≤ i → i < j → j ≤ 255 → wordAt b i ≢ wordAt b j
+    → opening (putAt (putAt b i (wordAt b j)) j (wordAt b i)) ≡ refused 16 1 0
+exchanged b i j t l less h ne =
+    let m = putAt b i (wordAt b j) in
+    let c = putAt m j (wordAt b i) in
+    let r : 2 * i ≤ length b = omega (arith, t .long) in
+    let s : 2 * j ≤ length m = rw (length-put b i (wordAt b j)) (omega (arith, t .long)) in
+    let from : 1 ≤ j = omega arith in
+    let long : 512 ≤ length c = rw (length-put m j (wordAt b i), length-put b i (wordAt b j)) (t .long) in
+    let same : (k : ℕ) → 1 ≤ k → k ≤ 256 → k ≢ i → k ≢ j → wordAt c k ≡ wordAt b k = λ k q _ off-i off-j.
+    word-put-other m j (wordAt b i) from s k q off-j ∙ word-put-other b i (wordAt b j) l r k q off-i in
+    let at-i : wordAt c i ≡ wordAt b j = word-put-other m j (wordAt b i) from s i l (λ e. omega arith) ∙ word-put-same b i (wordAt b j) l r in
+    let at-j : wordAt c j ≡ wordAt b i = word-put-same m j (wordAt b i) from s in
+    by-check c long (exchanged-small b c i j l less h same at-i at-j ne t) (exchanged-check b c i j l less h same at-i at-j ne t)

@@ -1,0 +1,47 @@
+-- This room's laws, proved: each by its name in specs/Laws.antt. Assumes nothing.
+use native.Mathlib.Omega.{arith}
+use Rattle.block.specs.Laws as law
+use Rattle.block.proofs.OpenLaws as «open»
+use Rattle.block.proofs.WrittenLaws as written
+use Rattle.block.proofs.DamageLaws as damage
+use Rattle.block.proofs.FrontLaws as front
+use Rattle.block.proofs.OneLaws as one
+
+pub block-length : law.BlockLength
+block-length h vs ok = written.length-block h vs (omega (arith, ok .width-in))
+
+pub opens-written : law.OpensWritten
+opens-written = written.opens-written
+
+pub true-passes : law.TruePasses
+true-passes = «open».true-passes
+
+pub passes-true : law.PassesTrue
+passes-true = «open».passes-true
+
+pub true-small : law.TrueSmall
+true-small b t = t .clean .small
+
+pub true-opens : law.TrueOpens
+true-opens = «open».true-opens
+
+pub opens-true : law.OpensTrue
+opens-true = «open».opens-true
+
+pub changed : law.Changed
+changed = damage.changed
+
+pub exchanged : law.Exchanged
+exchanged = damage.exchanged
+
+pub first-bytes : law.FirstBytes
+first-bytes = front.first-bytes
+
+pub which-refusals : law.WhichRefusals
+which-refusals = «open».which-refusals
+
+pub opened-one : law.OpenedOne
+opened-one = one.opened-one
+
+pub refused-empty : law.RefusedEmpty
+refused-empty = «open».refused-empty

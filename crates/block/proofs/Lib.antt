@@ -1,0 +1,13 @@
+pub mod SearchLaws
+pub mod WordLaws
+pub mod SumLaws
+pub mod PrimeLaws
+pub mod LayoutLaws
+pub mod ScanLaws
+pub mod OpenLaws
+pub mod WrittenLaws
+pub mod DamageLaws
+pub mod FrontLaws
+pub mod OneLaws
+pub mod Cases
+pub mod Laws

@@ -1,0 +1,167 @@
+-- The lines of a block, one after the other, and what opening says: a true block passes them all, and nothing else opens.
+-- Assumes nothing.
+use mathlib.Core.Path.{_≡_, sym, ap, _∙_}
+use mathlib.Core.Bool.{true, false, not}
+use mathlib.Core.Logic.{_≢_, ⊎-elim}
+use mathlib.Core.List.{List, [], _∷_, List·Memᴰ, List·Memᴰ·cases-cons, List·Memᴰ·not-nil}
+use Prim.Native.Nat.{ℕ, _+_, _*_, _≤_, _<_}
+use native.Mathlib.Nat.{pos-of-ne-zero}
+use native.Mathlib.Omega.{arith}
+use lib.ListN.{length, getD, take, drop}
+use lib.Dec.{eqb}
+use borrow.Author.Tests.{lt-ltb, le-ltb, ltb-false, eqb-true, eq-eqb, ne-eqb, not-false}
+use Rattle.answer.specs.declared.Refusal.{Refusal}
+use Rattle.answer.specs.declared.Answer.{Answer}
+use Rattle.answer.specs.declared.Answer.the-variants.{Done, Refused as Answer-Refused}
+use Rattle.answer.specs.Outcome.{Outcome, done, refused, number, outcome}
+use Rattle.answer.specs.Checks.{Line, firstFail}
+use Rattle.answer.specs.Places.{found}
+use Rattle.answer.specs.Laws.{Passed, By}
+use Rattle.answer.proofs.CheckLaws.{given, not-given, passed, passed-one, passed-none, passed-done, done-passed, same-refusal, refused-by}
+use Rattle.answer.proofs.FirstLaws.{first-all, none-in, below-end}
+use Rattle.block.specs.declared.Words.{Words}
+use Rattle.block.specs.declared.Opened.the-variants.{Head, Refused}
+use Rattle.block.specs.Words.{wordAt, checkOf, Small}
+use Rattle.block.specs.Layout.{headerOf, widthOf, rightAt, firstWrong}
+use Rattle.block.specs.Open.{above, firstAbove, torn, unread, check, header, blockLines, opening, valueBytes, valueStart, wordsOf, opened, TrueBlock}
+use Rattle.block.specs.Laws.{Refusable, by-torn, by-unread, by-check, by-header}
+use Rattle.block.proofs.LayoutLaws.{layout-of, of-layout}
+
+-- ---- a place was found, or none
+found-some : (f : ℕ) → f ≢ 0 → found f ≡ true
+found-some f h = ap not (ne-eqb f 0 h)
+
+found-none : (f : ℕ) → f ≡ 0 → found f ≡ false
+found-none f h = ap not (eq-eqb f 0 h)
+
+none-found : (f : ℕ) → found f ≡ false → f ≡ 0
+none-found f e = eqb-true f 0 (not-false (eqb f 0) e)
+
+some-found : (f : ℕ) → found f ≡ true → f ≢ 0
+some-found f e h = let z : true ≡ false = sym e ∙ found-none f h in let o : _≡_ {A = ℕ} 0 1 = cc in omega arith
+
+-- ---- no word is found above 32748 exactly where all 256 are at most that
+pub small-of : (b : List ℕ) → firstAbove b ≡ 0 → Small b 256
+unfolding firstAbove
+small-of b z = record { small = λ i l h. ltb-false 32748 (wordAt b i) (none-in (above b) 1 257 (omega arith) z i l (omega arith)) }
+
+pub of-small : (b : List ℕ) → Small b 256 → firstAbove b ≡ 0
+unfolding firstAbove
+of-small b s = first-all (above b) 1 257 (λ k l h. le-ltb 32748 (wordAt b k) (s .small k l (omega arith)))
+
+-- ---- the lines of a block: which of them speaks
+module _ {A : Type 0} (b : List ℕ) (a : ℕ) (end : Outcome A) where
+  pub says-unread : firstAbove b ≢ 0 → firstFail (blockLines b a) end ≡ refused 15 a 0
+  says-unread h = given (unread b a) (check b a ∷ header b a ∷ []) end (found-some (firstAbove b) h)
+
+  past-unread : firstAbove b ≡ 0 → firstFail (blockLines b a) end ≡ firstFail (check b a ∷ header b a ∷ []) end
+  past-unread h = not-given (unread b a) (check b a ∷ header b a ∷ []) end (found-none (firstAbove b) h)
+
+  pub says-check : firstAbove b ≡ 0 → checkOf b ≢ wordAt b 256 → firstFail (blockLines b a) end ≡ refused 16 a 0
+  says-check z h = past-unread z ∙ given (check b a) (header b a ∷ []) end (ap not (ne-eqb (checkOf b) (wordAt b 256) h))
+
+  past-check : firstAbove b ≡ 0 → checkOf b ≡ wordAt b 256 → firstFail (blockLines b a) end ≡ firstFail (header b a ∷ []) end
+  past-check z s = past-unread z ∙ not-given (check b a) (header b a ∷ []) end (ap not (eq-eqb (checkOf b) (wordAt b 256) s))
+
+  pub says-header : firstAbove b ≡ 0 → checkOf b ≡ wordAt b 256 → firstWrong b ≢ 0 → firstFail (blockLines b a) end ≡ refused 17 a (firstWrong b)
+  says-header z s h = past-check z s ∙ given (header b a) [] end (found-some (firstWrong b) h)
+
+  pub says-end : firstAbove b ≡ 0 → checkOf b ≡ wordAt b 256 → firstWrong b ≡ 0 → firstFail (blockLines b a) end ≡ end
+  unfolding firstFail
+  says-end z s h = past-check z s ∙ not-given (header b a) [] end (found-none (firstWrong b) h)
+
+-- ---- a true block passes them, and what passes them is a true block
+pub true-passes : (b : List ℕ) (a : ℕ) → TrueBlock b → Passed (blockLines b a)
+true-passes b a t =
+    passed-one (found-none (firstAbove b) (of-small b (t .clean)))
+    (passed-one (ap not (eq-eqb (checkOf b) (wordAt b 256) (t .sum)))
+    (passed-one (found-none (firstWrong b) (of-layout b (t .layout))) passed-none))
+
+pub passes-true : (b : List ℕ) (a : ℕ) → 512 ≤ length b → Passed (blockLines b a) → TrueBlock b
+passes-true b a l p =
+    let u = passed p in
+    let c = passed (u .1) in
+    let h = passed (c .1) in
+    record {
+      long = l;
+      clean = small-of b (none-found (firstAbove b) (u .0));
+      sum = eqb-true (checkOf b) (wordAt b 256) (not-false (eqb (checkOf b) (wordAt b 256)) (c .0));
+      layout = layout-of b (none-found (firstWrong b) (h .0));
+    }
+
+-- ---- opening
+pub opening-torn : (pile : List ℕ) → length pile < 512 → opening pile ≡ refused 13 0 0
+unfolding opening
+opening-torn pile l = given (torn pile) (blockLines pile 1) (done (headerOf pile)) (lt-ltb (length pile) 512 l)
+
+pub opening-block : (pile : List ℕ) → 512 ≤ length pile → opening pile ≡ firstFail (blockLines pile 1) (done (headerOf pile))
+unfolding opening
+opening-block pile l = not-given (torn pile) (blockLines pile 1) (done (headerOf pile)) (le-ltb (length pile) 512 l)
+
+pub true-opens : (pile : List ℕ) → TrueBlock pile → opening pile ≡ done (headerOf pile)
+true-opens pile t = opening-block pile (t .long) ∙ passed-done (blockLines pile 1) (done (headerOf pile)) (true-passes pile 1 t)
+
+pub opens-true : (pile ws : List ℕ) → opening pile ≡ done ws → TrueBlock pile × (ws ≡ headerOf pile)
+unfolding opening
+opens-true pile ws e =
+    let r = done-passed (torn pile ∷ blockLines pile 1) (done (headerOf pile)) ws e in
+    let p = passed (r .0) in
+    let q : done (headerOf pile) ≡ done ws = r .1 in
+    (passes-true pile 1 (ltb-false (length pile) 512 (p .0)) (p .1), cc)
+
+-- ---- which refusals opening gives
+told : {ls : List Line} {m a b : ℕ} (r : By ls m a b) (l : Line) → r .line ≡ l → Refusable (number (l .kind)) (l .a) (l .b) → Refusable m a b
+told r l e h =
+    let x = ap (λ (y : Line). number (y .kind)) (sym e) ∙ r .number-is in
+    let y = ap (λ (y : Line). y .a) (sym e) ∙ r .a-is in
+    let z = ap (λ (y : Line). y .b) (sym e) ∙ r .b-is in
+    rw (← x, ← y, ← z) h
+
+wrong-place : (b : List ℕ) → header b 1 .given ≡ true → Refusable 17 1 (firstWrong b)
+unfolding firstWrong
+wrong-place b g = by-header (pos-of-ne-zero (some-found (firstWrong b) g)) (below-end (λ i. not (rightAt b i)) 255)
+
+pub which-refusals : (pile : List ℕ) (m a b : ℕ) → opening pile ≡ refused m a b → Refusable m a b
+unfolding opening
+which-refusals pile m a b e =
+    let r = refused-by (torn pile ∷ blockLines pile 1) (headerOf pile) m a b e in
+    ⊎-elim (λ (h : r .line ≡ torn pile). told r (torn pile) h by-torn)
+    (λ (h : List·Memᴰ (r .line) (blockLines pile 1)).
+    ⊎-elim (λ (h : r .line ≡ unread pile 1). told r (unread pile 1) h by-unread)
+    (λ (h : List·Memᴰ (r .line) (check pile 1 ∷ header pile 1 ∷ [])).
+    ⊎-elim (λ (h : r .line ≡ check pile 1). told r (check pile 1) h by-check)
+    (λ (h : List·Memᴰ (r .line) (header pile 1 ∷ [])).
+    ⊎-elim
+    (λ (h : r .line ≡ header pile 1). told r (header pile 1) h (wrong-place pile (ap (λ (l : Line). l .given) (sym h) ∙ r .given)))
+    (λ (h : List·Memᴰ (r .line) []). absurd (List·Memᴰ·not-nil h))
+    (List·Memᴰ·cases-cons h))
+    (List·Memᴰ·cases-cons h))
+    (List·Memᴰ·cases-cons h))
+    (List·Memᴰ·cases-cons (r .listed))
+
+-- ---- a refused block gives the empty part
+pub refused-empty : (pile : List ℕ) (m a b : ℕ) → opening pile ≡ refused m a b → (valueBytes pile ≡ []) × (valueStart pile ≡ 0)
+unfolding valueBytes valueStart
+refused-empty pile m a b e = (rw e, rw e)
+
+-- ---- the code's chain: it opens the first block of a pile by the answer to its lines
+module _ (pile : List ℕ) (long : 512 ≤ length pile) {x : Answer} (says : outcome x ≡ firstFail (blockLines pile 1) (done 0)) where
+  pub open-refused : {r : Refusal} → x ≡ Answer-Refused r → opened (Refused r) ≡ opening pile
+  open-refused {r} q =
+      sym (opening-block pile long
+      ∙ same-refusal (blockLines pile 1) 0 (done (headerOf pile)) (number (r .kind)) (r .a) (r .b) (sym says ∙ ap outcome q))
+
+  pub open-head : {u : ℕ} (h : Words) → x ≡ Done u → wordsOf h ≡ headerOf pile → opened (Head h) ≡ opening pile
+  open-head {u} h q e =
+      ap done e
+      ∙ sym (opening-block pile long
+      ∙ passed-done (blockLines pile 1) (done (headerOf pile)) (done-passed (blockLines pile 1) (done 0) u (sym says ∙ ap outcome q) .0))
+
+-- ---- and hands back its value bytes
+pub values-head : (pile : List ℕ) (h : Words) → opening pile ≡ done (wordsOf h)
+    → (14 + 2 * h .width ≤ length pile) × (take (2 * h .width) (drop 14 pile) ≡ valueBytes pile) × (valueStart pile ≡ 14)
+unfolding valueBytes valueStart
+values-head pile h e =
+    let t = opens-true pile (wordsOf h) e in
+    let w : h .width ≡ widthOf pile = ap (λ (ws : List ℕ). getD ws 5 0) (t .1) in
+    (omega (arith, t .0 .long, t .0 .layout .width .1), rw (e, w), rw e)

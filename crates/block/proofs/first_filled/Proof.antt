@@ -1,0 +1,55 @@
+-- `block::first_filled` meets its contract. The invariant: the first word that is not 0 is still to be found from word i on. Assumes nothing.
+use denote.Ref.{now}
+use mathlib.Core.Path.{_≡_, refl, sym, ap, _∙_}
+use mathlib.Core.Bool.{not}
+use Prim.Native.Nat.{_-_, _≤_}
+use native.Mathlib.Omega.{arith}
+use borrow.Author.Tests.{eq-eqb, ne-eqb}
+use Rattle.answer.specs.Places.{firstIn}
+use Rattle.block.specs.Words.{wordAt}
+use Rattle.block.specs.Layout.{filled}
+use Rattle.answer.proofs.FirstLaws.{first-hit, first-miss, first-none}
+use Rattle.block.proofs.first_filled.Statement.{statement}
+use Rattle.block.proofs.first_filled.Tie as tie
+
+abbrev Inv-loop : tie.InvT-loop
+Inv-loop b start i₀ i = (1 ≤ i) × (firstIn (filled b) start 256 ≡ firstIn (filled b) i 256)
+
+abbrev μ-loop : tie.MeasureT-loop
+μ-loop b start i₀ i = 256 - i
+
+loop-holds : tie.Need-loop-holds Inv-loop μ-loop
+loop-holds c = (c .before .pre .1, refl)
+
+word-requires : tie.Need-word-requires Inv-loop μ-loop
+word-requires c κs = omega arith
+
+returns : tie.Need-returns Inv-loop μ-loop
+returns c =
+    let l = c .before .before .before .loop in
+    let b = now (c .before .before .before .before .before .args .b) in
+    sym (l .inv .1 ∙ first-hit (filled b) (l .i) 256 (c .before .before .loop-test .taken)
+    (ap not (ne-eqb (wordAt b (l .i)) 0 (λ e. c .if1 .taken (c .before .word .ensures ∙ e)))))
+
+add-i : tie.Need-add-i Inv-loop μ-loop
+add-i c = omega arith
+
+loop-less : tie.Need-loop-less Inv-loop μ-loop
+loop-less c = omega arith
+
+loop-again : tie.Need-loop-again Inv-loop μ-loop
+loop-again c =
+    let l = c .before .before .before .loop in
+    let b = now (c .before .before .before .before .before .args .b) in (
+      omega arith,
+      l .inv .1 ∙ first-miss (filled b) (l .i) 256 (c .before .before .loop-test .taken)
+          (ap not (eq-eqb (wordAt b (l .i)) 0 (sym (c .before .word .ensures) ∙ c .if1 .left))),
+    )
+
+returns-2 : tie.Need-returns-2 Inv-loop μ-loop
+returns-2 c =
+    let l = c .before .loop in
+    sym (l .inv .1 ∙ first-none (filled (now (c .before .before .before .args .b))) (l .i) 256 (c .loop-test .left))
+
+pub first-filled-spec : {M : Type 1} → statement M
+first-filled-spec = tie.close (tie.spec Inv-loop μ-loop loop-holds word-requires returns add-i loop-less loop-again returns-2)

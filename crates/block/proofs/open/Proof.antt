@@ -1,0 +1,43 @@
+-- `block::open` meets its contract: TORN by the length, and else what the block's lines say. Assumes nothing.
+use mathlib.Core.Path.{sym}
+use Rattle.block.proofs.OpenLaws.{opening-torn, open-refused, open-head}
+use borrow.Author.Needs.{needs}
+use Rattle.block.proofs.open.Statement.{statement}
+use Rattle.block.proofs.open.Tie as tie
+
+returns : tie.Need-returns
+returns c = sym (opening-torn _ (c .if1 .taken))
+
+check-block-requires : tie.Need-check-block-requires
+check-block-requires c κs = search needs
+
+enum-known-r : tie.Need-enum-known-r
+enum-known-r c = search needs
+
+enum-told : tie.Need-enum-told
+enum-told c = search needs
+
+header-requires : tie.Need-header-requires
+header-requires c κs = search needs
+
+returns-2 : tie.Need-returns-2
+returns-2 c =
+    let k = c .before .before .before in
+    open-refused _ (k .before .if1 .left) (k .check-block .ensures) (c .before .r .given .1)
+
+returns-3 : tie.Need-returns-3
+returns-3 c =
+    let k = c .before .before .before in
+    open-head _ (k .before .if1 .left) (k .check-block .ensures) (c .header .result) (c .before .enum-told .given .1) (c .header .ensures)
+
+pub open-spec : {M : Type 1} → statement M
+open-spec =
+    tie.close
+    (tie.spec
+    returns
+    check-block-requires
+    enum-known-r
+    enum-told
+    header-requires
+    returns-2
+    returns-3)

@@ -1,0 +1,106 @@
+-- `block::right` meets its contract, word by word. Assumes nothing.
+use Prim.Native.Nat.{ℕ}
+use mathlib.Core.Path.{_≡_, sym, ap, _∙_}
+use mathlib.Core.Bool.{true, false}
+use native.Mathlib.Omega.{arith}
+use denote.Ref.{now}
+use Rattle.block.specs.Words.{wordAt}
+use Rattle.block.specs.Layout.{within, rightAt}
+use borrow.Author.Needs.{needs}
+use Rattle.block.proofs.right.Statement.{statement}
+use Rattle.block.proofs.right.Tie as tie
+
+-- word 4, and that the last arm is word 7
+word-four : (k : tie.At-match-keys4) → k .before .word .result ≡ wordAt (now (k .before .before .before .args .b)) 4
+word-four k = k .before .word .ensures ∙ ap (wordAt (now (k .before .before .before .args .b))) (k .match .keys4)
+
+seven : (k : tie.At-match-rest) → k .before .before .before .args .i ≡ 7
+seven k = omega arith
+
+word-requires : tie.Need-word-requires
+word-requires c κs = search needs
+
+within-requires : tie.Need-within-requires
+within-requires c κs = search needs
+
+word-requires-2 : tie.Need-word-requires-2
+word-requires-2 c κs = search needs
+
+within-requires-2 : tie.Need-within-requires-2
+within-requires-2 c κs = search needs
+
+within-requires-3 : tie.Need-within-requires-3
+within-requires-3 c κs = search needs
+
+within-requires-4 : tie.Need-within-requires-4
+within-requires-4 c κs = search needs
+
+word-requires-3 : tie.Need-word-requires-3
+word-requires-3 c κs = search needs
+
+within-requires-5 : tie.Need-within-requires-5
+within-requires-5 c κs = search needs
+
+returns : tie.Need-returns
+unfolding rightAt
+returns c = simp (c .before .word .ensures, c .match .keys1)
+
+returns-2 : tie.Need-returns-2
+unfolding rightAt
+returns-2 c = simp (c .before .word .ensures, c .match .keys2)
+
+returns-3 : tie.Need-returns-3
+unfolding rightAt
+returns-3 c = simp (c .within .ensures, c .before .before .word .ensures, c .before .match .keys3)
+
+returns-4 : tie.Need-returns-4
+unfolding rightAt
+returns-4 c =
+    let k = c .before .before .before in
+    let b = now (k .before .before .before .args .b) in
+    let w = word-four k in
+    let t : within 1 (wordAt b 4) 8 ≡ true = ap (λ (v : ℕ). within 1 v 8) (sym w) ∙ sym (c .before .within2 .ensures) ∙ c .if1 .taken in
+    simp (c .before .before .word2 .ensures, w, k .match .keys4, t)
+
+returns-5 : tie.Need-returns-5
+unfolding rightAt
+returns-5 c =
+    let k = c .before .before .before in
+    let b = now (k .before .before .before .args .b) in
+    let t : within 1 (wordAt b 4) 8 ≡ false = ap (λ (v : ℕ). within 1 v 8) (sym (word-four k)) ∙ sym (c .before .within2 .ensures) ∙ c .if1 .left in
+    simp (k .match .keys4, t)
+
+returns-6 : tie.Need-returns-6
+unfolding rightAt
+returns-6 c = simp (c .within3 .ensures, c .before .before .word .ensures, c .before .match .keys5)
+
+returns-7 : tie.Need-returns-7
+unfolding rightAt
+returns-7 c = simp (c .within4 .ensures, c .before .before .word .ensures, c .before .match .keys6)
+
+returns-8 : tie.Need-returns-8
+unfolding rightAt
+returns-8 c =
+    let k = c .before .before in
+    simp (c .within5 .ensures, k .before .word .ensures, c .before .word3 .ensures, seven k)
+
+pub right-spec : {M : Type 1} → statement M
+right-spec =
+    tie.close
+    (tie.spec
+    word-requires
+    within-requires
+    word-requires-2
+    within-requires-2
+    within-requires-3
+    within-requires-4
+    word-requires-3
+    within-requires-5
+    returns
+    returns-2
+    returns-3
+    returns-4
+    returns-5
+    returns-6
+    returns-7
+    returns-8)

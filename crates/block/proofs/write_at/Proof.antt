@@ -1,0 +1,38 @@
+-- `block::write_at` meets its contract: the part that was lent has come back. Assumes nothing.
+use denote.Ref.{now}
+use Rattle.block.specs.Written.{blockBytes}
+use Rattle.block.proofs.WrittenLaws.{part-written}
+use borrow.Author.Needs.{needs}
+use Rattle.block.proofs.write_at.Statement.{statement}
+use Rattle.block.proofs.write_at.Tie as tie
+
+sub-write-block : tie.Need-sub-write-block
+sub-write-block c = search needs
+
+part-write-block-start : tie.Need-part-write-block-start
+part-write-block-start c = search needs
+
+part-write-block-end : tie.Need-part-write-block-end
+part-write-block-end c = search needs
+
+write-block-requires : tie.Need-write-block-requires
+write-block-requires c κs = search needs
+
+same-length : tie.Need-same-length
+same-length c = search needs
+
+returns : tie.Need-returns
+returns c =
+    let a = c .before .before .before .before .before .before .args in
+    part-written (now (a .out)) (c .before .before .write-block .last .0) (blockBytes (a .h) (now (a .values))) (a .at) (c .before .before .write-block .ensures)
+
+pub write-at-spec : {M : Type 1} → statement M
+write-at-spec =
+    tie.close
+    (tie.spec
+    sub-write-block
+    part-write-block-start
+    part-write-block-end
+    write-block-requires
+    same-length
+    returns)

@@ -1,0 +1,83 @@
+-- `block::write_block` meets its contract: words 1 to i - 1 stand before the rest of what was lent, and are in the sum.
+-- Assumes nothing.
+use denote.Ref.{now}
+use mathlib.Core.Path.{_∙_}
+use Prim.Native.Nat.{_-_, _≤_}
+use lib.ListN.{length}
+use native.Mathlib.Omega.{arith}
+use borrow.Author.Needs.{needs}
+use Rattle.block.proofs.WrittenLaws.{Writing, write-start, write-on, write-end, body-small}
+use Rattle.block.proofs.write_block.Statement.{statement}
+use Rattle.block.proofs.write_block.Tie as tie
+
+abbrev Inv-loop : tie.InvT-loop
+Inv-loop out₀ h values sum₀ i₀ out sum i = Writing h values out₀ out sum i
+
+abbrev μ-loop : tie.MeasureT-loop
+μ-loop out₀ h values sum₀ i₀ out sum i = 256 - i
+
+few : (st : tie.Start Inv-loop μ-loop) → length (now (st .args .values)) ≤ 248
+few st = omega (arith, st .pre .1 .width-in)
+
+loop-holds : tie.Need-loop-holds Inv-loop μ-loop
+loop-holds c = write-start _ _ _
+
+body-word-requires : tie.Need-body-word-requires Inv-loop μ-loop
+body-word-requires c κs = search needs
+
+put-word-requires : tie.Need-put-word-requires Inv-loop μ-loop
+put-word-requires c κs = search needs
+
+weigh-requires : tie.Need-weigh-requires Inv-loop μ-loop
+weigh-requires c κs =
+    let k = c .before .before .before .before in
+    let st = k .before .before .before .before .before in
+    let small = body-small (st .args .h) (now (st .args .values)) (st .pre .1) (k .before .before .loop .i - 1) in
+    (omega arith, search needs)
+
+add-i : tie.Need-add-i Inv-loop μ-loop
+add-i c = search needs
+
+loop-less : tie.Need-loop-less Inv-loop μ-loop
+loop-less c = search needs
+
+loop-again : tie.Need-loop-again Inv-loop μ-loop
+loop-again c =
+    let k = c .before .before .before .before .before in
+    let st = k .before .before .before .before .before in
+    let w = c .before .before .before .put-word in
+    write-on _ _ _ _ _ _ (few st) (st .pre .0) (k .before .before .loop .inv) (omega arith) _ (k .body-word .ensures) _ (w .kept .0) (w .ensures) _
+    (c .weigh .ensures .0) (c .weigh .ensures .1)
+
+cast-put-word : tie.Need-cast-put-word Inv-loop μ-loop
+cast-put-word c = search needs
+
+put-word-requires-2 : tie.Need-put-word-requires-2 Inv-loop μ-loop
+put-word-requires-2 c κs = search needs
+
+same-length : tie.Need-same-length Inv-loop μ-loop
+same-length c = c .before .before .put-word2 .kept .0 ∙ c .before .before .before .before .before .loop .inv .same
+
+returns : tie.Need-returns Inv-loop μ-loop
+returns c =
+    let k = c .before .before .before .before .before in
+    let st = k .before .before .before in
+    c .before .before .put-word2 .ensures ∙ write-end _ _ _ _ _ _ (few st) (st .pre .0) (k .loop .inv) (omega arith)
+
+pub write-block-spec : {M : Type 1} → statement M
+write-block-spec =
+    tie.close
+    (tie.spec
+    Inv-loop
+    μ-loop
+    loop-holds
+    body-word-requires
+    put-word-requires
+    weigh-requires
+    add-i
+    loop-less
+    loop-again
+    cast-put-word
+    put-word-requires-2
+    same-length
+    returns)

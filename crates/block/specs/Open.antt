@@ -1,0 +1,82 @@
+-- "Opening takes the first 512 bytes of what it is lent: fewer is TORN, then 15, 16, 17 with a = 1", else words 1 to 7; and the value bytes.
+-- Assumes nothing.
+use Prim.Native.Nat.{ℕ, _*_, _≤_}
+use mathlib.Core.Path.{_≡_}
+use mathlib.Core.Bool.{Bool, cond, not}
+use mathlib.Core.List.{List, [], _∷_}
+use lib.ListN.{length, take, drop}
+use lib.Dec.{eqb, ltb}
+use Rattle.answer.specs.declared.Kind.the-variants.{Torn, Unread, Check, Header}
+use Rattle.answer.specs.Outcome.{Outcome, done, refused, number}
+use Rattle.answer.specs.Checks.{Line, line, firstFail}
+use Rattle.answer.specs.Places.{firstIn, found}
+use Rattle.block.specs.Words.{wordAt, checkOf, Small}
+use Rattle.block.specs.Layout.{headerOf, widthOf, firstWrong, Layout}
+use Rattle.block.specs.declared.Words.{Words}
+use Rattle.block.specs.declared.Opened.{Opened}
+use Rattle.block.specs.declared.Opened.the-variants.{Head, Refused}
+
+-- "a word above 32748"
+abbrev pub above : List ℕ → ℕ → Bool
+above b i = ltb 32748 (wordAt b i)
+
+-- the first of the 256 words that is above 32748, or 0
+unfoldable pub firstAbove : List ℕ → ℕ
+firstAbove b = firstIn (above b) 1 257
+
+-- the check of a block in which no word is above 32748, and 0 where one is: such a word enters no sum
+unfoldable pub cleanCheck : List ℕ → ℕ
+cleanCheck b = cond (eqb (firstAbove b) 0) (checkOf b) 0
+
+-- 13 TORN: fewer than 512 bytes
+abbrev pub torn : List ℕ → Line
+torn pile = line Torn (ltb (length pile) 512) 0 0
+
+-- 15 UNREAD: "a word above 32748", "a: block"
+abbrev pub unread : List ℕ → ℕ → Line
+unread b a = line Unread (found (firstAbove b)) a 0
+
+-- 16 CHECK: "word 256 is wrong", "a: block"
+abbrev pub check : List ℕ → ℕ → Line
+check b a = line Check (not (eqb (checkOf b) (wordAt b 256))) a 0
+
+-- 17 HEADER: "words 1 to 255 break the layout", "block, first wrong word"
+abbrev pub header : List ℕ → ℕ → Line
+header b a = line Header (found (firstWrong b)) a (firstWrong b)
+
+-- "each for 15, 16, 17": the lines of b, which is block a
+abbrev pub blockLines : List ℕ → ℕ → List Line
+blockLines b a = unread b a ∷ check b a ∷ header b a ∷ []
+
+-- opening the first block of a pile
+unfoldable pub opening : List ℕ → Outcome (List ℕ)
+opening pile = firstFail (torn pile ∷ blockLines pile 1) (done (headerOf pile))
+
+-- one thing where the outcome is a result, another where it is a refusal
+abbrev pub byOutcome : {A B : Type 0} → Outcome A → B → B → B
+byOutcome (done v) x y = x
+byOutcome (refused m a b) x y = y
+
+-- "the 2w value bytes, starting 14 bytes into that block ..; a refused block gives the empty part"
+unfoldable pub valueBytes : List ℕ → List ℕ
+valueBytes pile = byOutcome (opening pile) (take (2 * widthOf pile) (drop 14 pile)) []
+
+-- where in the pile that part starts: 14 bytes in, the empty part at the front
+unfoldable pub valueStart : List ℕ → ℕ
+valueStart pile = byOutcome (opening pile) 14 0
+
+-- words 1 to 7, as the code holds them
+abbrev pub wordsOf : Words → List ℕ
+wordsOf h = h .mark ∷ h .deal ∷ h .holder ∷ h .people ∷ h .pieces ∷ h .width ∷ h .piece ∷ []
+
+-- what the code's answer says
+abbrev pub opened : Opened → Outcome (List ℕ)
+opened (Head h) = done (wordsOf h)
+opened (Refused r) = refused (number (r .kind)) (r .a) (r .b)
+
+-- "A true block is one that passes 15, 16 and 17; all its words are at most 32748."
+pub record TrueBlock (b : List ℕ) : Type 0 where
+  pub long : 512 ≤ length b
+  pub clean : Small b 256
+  pub sum : checkOf b ≡ wordAt b 256
+  pub layout : Layout b
