@@ -2,16 +2,21 @@
 use native.Mathlib.Omega.{arith}
 use Rattle.block.specs.Laws as law
 use Rattle.block.proofs.OpenLaws as «open»
+use Rattle.block.proofs.ValueLaws as value
+use Rattle.block.proofs.BodyLaws as body
 use Rattle.block.proofs.WrittenLaws as written
 use Rattle.block.proofs.DamageLaws as damage
 use Rattle.block.proofs.FrontLaws as front
 use Rattle.block.proofs.OneLaws as one
 
 pub block-length : law.BlockLength
-block-length h vs ok = written.length-block h vs (omega (arith, ok .width-in))
+block-length h vs ok = body.length-block h vs (omega (arith, ok .width-in))
 
 pub opens-written : law.OpensWritten
 opens-written = written.opens-written
+
+pub written-words : law.WrittenWords
+written-words = written.written-words
 
 pub true-passes : law.TruePasses
 true-passes = «open».true-passes
@@ -43,5 +48,8 @@ which-refusals = «open».which-refusals
 pub opened-one : law.OpenedOne
 opened-one = one.opened-one
 
+pub value-words : law.ValueWords
+value-words = value.value-words
+
 pub refused-empty : law.RefusedEmpty
-refused-empty = «open».refused-empty
+refused-empty = value.refused-empty

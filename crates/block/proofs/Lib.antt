@@ -5,6 +5,9 @@ pub mod PrimeLaws
 pub mod LayoutLaws
 pub mod ScanLaws
 pub mod OpenLaws
+pub mod ValueLaws
+pub mod BodyLaws
+pub mod WritingLaws
 pub mod WrittenLaws
 pub mod DamageLaws
 pub mod FrontLaws

@@ -4,10 +4,10 @@ use mathlib.Core.Path.{_≡_, sym, ap, _∙_}
 use mathlib.Core.Bool.{true, false, not}
 use mathlib.Core.Logic.{_≢_, ⊎-elim}
 use mathlib.Core.List.{List, [], _∷_, List·Memᴰ, List·Memᴰ·cases-cons, List·Memᴰ·not-nil}
-use Prim.Native.Nat.{ℕ, _+_, _*_, _≤_, _<_}
+use Prim.Native.Nat.{ℕ, _≤_, _<_}
 use native.Mathlib.Nat.{pos-of-ne-zero}
 use native.Mathlib.Omega.{arith}
-use lib.ListN.{length, getD, take, drop}
+use lib.ListN.{length}
 use lib.Dec.{eqb}
 use borrow.Author.Tests.{lt-ltb, le-ltb, ltb-false, eqb-true, eq-eqb, ne-eqb, not-false}
 use Rattle.answer.specs.declared.Refusal.{Refusal}
@@ -22,8 +22,8 @@ use Rattle.answer.proofs.FirstLaws.{first-all, none-in, below-end}
 use Rattle.block.specs.declared.Words.{Words}
 use Rattle.block.specs.declared.Opened.the-variants.{Head, Refused}
 use Rattle.block.specs.Words.{wordAt, checkOf, Small}
-use Rattle.block.specs.Layout.{headerOf, widthOf, rightAt, firstWrong}
-use Rattle.block.specs.Open.{above, firstAbove, torn, unread, check, header, blockLines, opening, valueBytes, valueStart, wordsOf, opened, TrueBlock}
+use Rattle.block.specs.Layout.{headerOf, rightAt, firstWrong}
+use Rattle.block.specs.Open.{above, firstAbove, torn, unread, check, header, blockLines, opening, wordsOf, opened, TrueBlock}
 use Rattle.block.specs.Laws.{Refusable, by-torn, by-unread, by-check, by-header}
 use Rattle.block.proofs.LayoutLaws.{layout-of, of-layout}
 
@@ -139,11 +139,6 @@ which-refusals pile m a b e =
     (List·Memᴰ·cases-cons h))
     (List·Memᴰ·cases-cons (r .listed))
 
--- ---- a refused block gives the empty part
-pub refused-empty : (pile : List ℕ) (m a b : ℕ) → opening pile ≡ refused m a b → (valueBytes pile ≡ []) × (valueStart pile ≡ 0)
-unfolding valueBytes valueStart
-refused-empty pile m a b e = (rw e, rw e)
-
 -- ---- the code's chain: it opens the first block of a pile by the answer to its lines
 module _ (pile : List ℕ) (long : 512 ≤ length pile) {x : Answer} (says : outcome x ≡ firstFail (blockLines pile 1) (done 0)) where
   pub open-refused : {r : Refusal} → x ≡ Answer-Refused r → opened (Refused r) ≡ opening pile
@@ -156,12 +151,3 @@ module _ (pile : List ℕ) (long : 512 ≤ length pile) {x : Answer} (says : out
       ap done e
       ∙ sym (opening-block pile long
       ∙ passed-done (blockLines pile 1) (done (headerOf pile)) (done-passed (blockLines pile 1) (done 0) u (sym says ∙ ap outcome q) .0))
-
--- ---- and hands back its value bytes
-pub values-head : (pile : List ℕ) (h : Words) → opening pile ≡ done (wordsOf h)
-    → (14 + 2 * h .width ≤ length pile) × (take (2 * h .width) (drop 14 pile) ≡ valueBytes pile) × (valueStart pile ≡ 14)
-unfolding valueBytes valueStart
-values-head pile h e =
-    let t = opens-true pile (wordsOf h) e in
-    let w : h .width ≡ widthOf pile = ap (λ (ws : List ℕ). getD ws 5 0) (t .1) in
-    (omega (arith, t .0 .long, t .0 .layout .width .1), rw (e, w), rw e)

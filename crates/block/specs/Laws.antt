@@ -1,16 +1,16 @@
 -- The laws that this room owes; their proofs are in proofs/Laws.antt.
 -- Assumes nothing.
-use Prim.Native.Nat.{ℕ, _≤_, _<_}
+use Prim.Native.Nat.{ℕ, _+_, _-_, _*_, _≤_, _<_}
 use mathlib.Core.Path.{_≡_}
 use mathlib.Core.Logic.{_≢_}
 use mathlib.Core.List.{List, [], _++_}
-use lib.ListN.{length, take}
+use lib.ListN.{length, getD, take}
 use Rattle.answer.specs.Outcome.{done, refused}
 use Rattle.answer.specs.Laws.{Passed}
 use Rattle.block.specs.declared.Words.{Words}
 use Rattle.block.specs.declared.Opened.{Opened}
 use Rattle.block.specs.Words.{wordAt, putAt, bytesOf}
-use Rattle.block.specs.Layout.{headerOf}
+use Rattle.block.specs.Layout.{headerOf, widthOf}
 use Rattle.block.specs.Open.{blockLines, opening, valueBytes, valueStart, wordsOf, opened, TrueBlock}
 use Rattle.block.specs.Written.{blockBytes, Buildable}
 
@@ -24,6 +24,12 @@ OpensWritten = (h : Words) (vs rest : List ℕ) → Buildable h vs
     → TrueBlock (blockBytes h vs ++ rest)
     × (opening (blockBytes h vs ++ rest) ≡ done (wordsOf h))
     × (valueBytes (blockBytes h vs ++ rest) ≡ bytesOf vs)
+
+-- Its words 1 to 7 are those it was written from, and words "8 to 7+w" its values.
+abbrev pub WrittenWords : Type 0
+WrittenWords = (h : Words) (vs rest : List ℕ) → Buildable h vs
+    → (headerOf (blockBytes h vs ++ rest) ≡ wordsOf h)
+    × ((i : ℕ) → 1 ≤ i → i ≤ length vs → wordAt (blockBytes h vs ++ rest) (7 + i) ≡ getD vs (i - 1) 0)
 
 -- "A true block is one that passes 15, 16 and 17": as block a of a pile, whatever a is.
 abbrev pub TruePasses : Type 0
@@ -71,6 +77,12 @@ WhichRefusals = (pile : List ℕ) (m a b : ℕ) → opening pile ≡ refused m a
 -- Equal outcomes, equal answers: the promise `opened r ≡ opening pile` leaves one possible answer.
 abbrev pub OpenedOne : Type 0
 OpenedOne = (x y : Opened) → opened x ≡ opened y → x ≡ y
+
+-- "the 2w value bytes": they are words "8 to 7+w" of a true block, all of them.
+abbrev pub ValueWords : Type 0
+ValueWords = (pile : List ℕ) → TrueBlock pile
+    → (length (valueBytes pile) ≡ 2 * widthOf pile)
+    × ((i : ℕ) → 1 ≤ i → i ≤ widthOf pile → wordAt (valueBytes pile) i ≡ wordAt pile (7 + i))
 
 -- "a refused block gives the empty part"
 abbrev pub RefusedEmpty : Type 0

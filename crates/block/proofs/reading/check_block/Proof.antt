@@ -1,4 +1,4 @@
--- `block::check_block` meets its contract: at each return the tests that led there say which line speaks. Assumes nothing.
+-- `block::reading::check_block` meets its contract: at each return the tests that led there say which line speaks. Assumes nothing.
 use denote.Ref.{now}
 use mathlib.Core.Path.{_≡_, sym, ap, _∙_}
 use mathlib.Core.List.{List}
@@ -9,8 +9,8 @@ use Rattle.block.specs.Open.{firstAbove}
 use Rattle.block.proofs.ScanLaws.{clean-check}
 use Rattle.block.proofs.OpenLaws.{says-unread, says-check, says-header, says-end}
 use borrow.Author.Needs.{needs}
-use Rattle.block.proofs.check_block.Statement.{statement}
-use Rattle.block.proofs.check_block.Tie as tie
+use Rattle.block.proofs.reading.check_block.Statement.{statement}
+use Rattle.block.proofs.reading.check_block.Tie as tie
 
 -- past the first test no word is above 32748, so the sum is the check; past the second it is word 256
 abbrev block : tie.After-scan → List ℕ

@@ -1,4 +1,4 @@
--- `block::values` meets its contract: a block that opens is true, so its value bytes lie within the pile; and where the part points.
+-- `block::reading::values` meets its contract: a block that opens is true, so its value bytes lie within the pile; and where the part points.
 -- Assumes nothing.
 use denote.Ref.{now}
 use mathlib.Core.Path.{_≡_, sym, ap, _∙_}
@@ -8,10 +8,10 @@ use native.Mathlib.Omega.{arith}
 use lib.ListN.{take, drop}
 use Rattle.answer.specs.Outcome.{done}
 use Rattle.block.specs.Open.{opening, wordsOf, opened}
-use Rattle.block.proofs.OpenLaws.{values-head, refused-empty}
+use Rattle.block.proofs.ValueLaws.{values-head, refused-empty}
 use borrow.Author.Needs.{needs}
-use Rattle.block.proofs.values.Statement.{statement}
-use Rattle.block.proofs.values.Tie as tie
+use Rattle.block.proofs.reading.values.Statement.{statement}
+use Rattle.block.proofs.reading.values.Tie as tie
 
 -- a part's pointer, as the borrow checker has it, and as the contract says it
 at-offset : (b o : ℕ) {n m : ℕ} → m ≡ n → _≡_ {A = ℕ × ℕ} (b, n + o) (b, o + m)

@@ -1,4 +1,4 @@
--- `block::first_wrong` meets its contract. The invariant: the first wrong word is still to be found from word i on; past the header it is
+-- `block::reading::first_wrong` meets its contract. The invariant: the first wrong word is still to be found from word i on; past the header it is
 -- the first word past the values that is not 0. Assumes nothing.
 use borrow.Author.Needs.{needs}
 use denote.Ref.{now}
@@ -10,8 +10,8 @@ use Rattle.answer.specs.Places.{firstIn}
 use Rattle.answer.proofs.FirstLaws.{first-hit, first-miss}
 use Rattle.block.specs.Layout.{rightAt, filled, firstWrong}
 use Rattle.block.proofs.LayoutLaws.{wrong-rest}
-use Rattle.block.proofs.first_wrong.Statement.{statement}
-use Rattle.block.proofs.first_wrong.Tie as tie
+use Rattle.block.proofs.reading.first_wrong.Statement.{statement}
+use Rattle.block.proofs.reading.first_wrong.Tie as tie
 
 abbrev Inv-loop : tie.InvT-loop
 Inv-loop b i₀ i = (1 ≤ i) × (i ≤ 8) × (firstWrong b ≡ firstIn (λ k. not (rightAt b k)) i 256)

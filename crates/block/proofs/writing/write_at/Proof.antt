@@ -1,10 +1,10 @@
--- `block::write_at` meets its contract: the part that was lent has come back. Assumes nothing.
+-- `block::writing::write_at` meets its contract: the part that was lent has come back. Assumes nothing.
 use denote.Ref.{now}
 use Rattle.block.specs.Written.{blockBytes}
-use Rattle.block.proofs.WrittenLaws.{part-written}
+use Rattle.block.proofs.WritingLaws.{part-written}
 use borrow.Author.Needs.{needs}
-use Rattle.block.proofs.write_at.Statement.{statement}
-use Rattle.block.proofs.write_at.Tie as tie
+use Rattle.block.proofs.writing.write_at.Statement.{statement}
+use Rattle.block.proofs.writing.write_at.Tie as tie
 
 sub-write-block : tie.Need-sub-write-block
 sub-write-block c = search needs

@@ -1,11 +1,11 @@
--- `block::put_word` meets its contract. Assumes nothing.
+-- `block::writing::put_word` meets its contract. Assumes nothing.
 use native.Mathlib.Omega.{arith}
 use mathlib.Core.Path.{refl}
 use lib.ListN.{length-set}
 use Rattle.block.specs.Words.{putAt}
 use borrow.Author.Needs.{needs}
-use Rattle.block.proofs.put_word.Statement.{statement}
-use Rattle.block.proofs.put_word.Tie as tie
+use Rattle.block.proofs.writing.put_word.Statement.{statement}
+use Rattle.block.proofs.writing.put_word.Tie as tie
 
 sub-at : tie.Need-sub-at
 sub-at c = search needs

@@ -1,4 +1,4 @@
--- `block::first_filled` meets its contract. The invariant: the first word that is not 0 is still to be found from word i on. Assumes nothing.
+-- `block::reading::first_filled` meets its contract. The invariant: the first word that is not 0 is still to be found from word i on. Assumes nothing.
 use denote.Ref.{now}
 use mathlib.Core.Path.{_≡_, refl, sym, ap, _∙_}
 use mathlib.Core.Bool.{not}
@@ -9,8 +9,8 @@ use Rattle.answer.specs.Places.{firstIn}
 use Rattle.block.specs.Words.{wordAt}
 use Rattle.block.specs.Layout.{filled}
 use Rattle.answer.proofs.FirstLaws.{first-hit, first-miss, first-none}
-use Rattle.block.proofs.first_filled.Statement.{statement}
-use Rattle.block.proofs.first_filled.Tie as tie
+use Rattle.block.proofs.reading.first_filled.Statement.{statement}
+use Rattle.block.proofs.reading.first_filled.Tie as tie
 
 abbrev Inv-loop : tie.InvT-loop
 Inv-loop b start i₀ i = (1 ≤ i) × (firstIn (filled b) start 256 ≡ firstIn (filled b) i 256)

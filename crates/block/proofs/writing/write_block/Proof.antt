@@ -1,4 +1,4 @@
--- `block::write_block` meets its contract: words 1 to i - 1 stand before the rest of what was lent, and are in the sum.
+-- `block::writing::write_block` meets its contract: words 1 to i - 1 stand before the rest of what was lent, and are in the sum.
 -- Assumes nothing.
 use denote.Ref.{now}
 use mathlib.Core.Path.{_∙_}
@@ -6,9 +6,10 @@ use Prim.Native.Nat.{_-_, _≤_}
 use lib.ListN.{length}
 use native.Mathlib.Omega.{arith}
 use borrow.Author.Needs.{needs}
-use Rattle.block.proofs.WrittenLaws.{Writing, write-start, write-on, write-end, body-small}
-use Rattle.block.proofs.write_block.Statement.{statement}
-use Rattle.block.proofs.write_block.Tie as tie
+use Rattle.block.proofs.WritingLaws.{Writing, write-start, write-on, write-end}
+use Rattle.block.proofs.BodyLaws.{body-small}
+use Rattle.block.proofs.writing.write_block.Statement.{statement}
+use Rattle.block.proofs.writing.write_block.Tie as tie
 
 abbrev Inv-loop : tie.InvT-loop
 Inv-loop out₀ h values sum₀ i₀ out sum i = Writing h values out₀ out sum i

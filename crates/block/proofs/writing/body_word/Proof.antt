@@ -1,13 +1,13 @@
--- `block::body_word` meets its contract, arm by arm. Assumes nothing.
+-- `block::writing::body_word` meets its contract, arm by arm. Assumes nothing.
 use Prim.Native.Nat.{_≤_}
-use Rattle.block.proofs.WrittenLaws.{past-seven}
+use Rattle.block.proofs.BodyLaws.{past-seven}
 use denote.Ref.{now}
 use mathlib.Core.Path.{sym}
 use Rattle.block.specs.Written.{body}
-use Rattle.block.proofs.WrittenLaws.{body-value, body-zero}
+use Rattle.block.proofs.BodyLaws.{body-value, body-zero}
 use borrow.Author.Needs.{needs}
-use Rattle.block.proofs.body_word.Statement.{statement}
-use Rattle.block.proofs.body_word.Tie as tie
+use Rattle.block.proofs.writing.body_word.Statement.{statement}
+use Rattle.block.proofs.writing.body_word.Tie as tie
 
 eight : (c : tie.At-match-rest) → 8 ≤ c .before .args .i
 eight c =

@@ -1,8 +1,8 @@
--- `block::header` meets its contract: seven words read. Assumes nothing.
+-- `block::reading::header` meets its contract: seven words read. Assumes nothing.
 use mathlib.Core.List.{[], _∷_}
 use borrow.Author.Needs.{needs}
-use Rattle.block.proofs.header.Statement.{statement}
-use Rattle.block.proofs.header.Tie as tie
+use Rattle.block.proofs.reading.header.Statement.{statement}
+use Rattle.block.proofs.reading.header.Tie as tie
 
 word-requires : tie.Need-word-requires
 word-requires c κs = search needs

@@ -1,9 +1,9 @@
--- `block::open` meets its contract: TORN by the length, and else what the block's lines say. Assumes nothing.
+-- `block::reading::open` meets its contract: TORN by the length, and else what the block's lines say. Assumes nothing.
 use mathlib.Core.Path.{sym}
 use Rattle.block.proofs.OpenLaws.{opening-torn, open-refused, open-head}
 use borrow.Author.Needs.{needs}
-use Rattle.block.proofs.open.Statement.{statement}
-use Rattle.block.proofs.open.Tie as tie
+use Rattle.block.proofs.reading.open.Statement.{statement}
+use Rattle.block.proofs.reading.open.Tie as tie
 
 returns : tie.Need-returns
 returns c = sym (opening-torn _ (c .if1 .taken))

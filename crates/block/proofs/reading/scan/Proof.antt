@@ -1,4 +1,4 @@
--- `block::scan` meets its contract: the first word above 32748 is still to be found from word i on, and the words before it are in the sum.
+-- `block::reading::scan` meets its contract: the first word above 32748 is still to be found from word i on, and the words before it are in the sum.
 -- Assumes nothing.
 use denote.Ref.{now}
 use mathlib.Core.Path.{_≡_, sym, ap, _∙_}
@@ -7,8 +7,8 @@ use native.Mathlib.Omega.{arith}
 use borrow.Author.Needs.{needs}
 use Rattle.block.specs.Words.{wordAt}
 use Rattle.block.proofs.ScanLaws.{Scanning, scan-start, scan-found, scan-on, scan-end}
-use Rattle.block.proofs.scan.Statement.{statement}
-use Rattle.block.proofs.scan.Tie as tie
+use Rattle.block.proofs.reading.scan.Statement.{statement}
+use Rattle.block.proofs.reading.scan.Tie as tie
 
 abbrev Inv-loop : tie.InvT-loop
 Inv-loop b sum₀ i₀ sum i = Scanning b sum i

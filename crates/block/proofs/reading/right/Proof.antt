@@ -1,4 +1,4 @@
--- `block::right` meets its contract, word by word. Assumes nothing.
+-- `block::reading::right` meets its contract, word by word. Assumes nothing.
 use Prim.Native.Nat.{ℕ}
 use mathlib.Core.Path.{_≡_, sym, ap, _∙_}
 use mathlib.Core.Bool.{true, false}
@@ -7,8 +7,8 @@ use denote.Ref.{now}
 use Rattle.block.specs.Words.{wordAt}
 use Rattle.block.specs.Layout.{within, rightAt}
 use borrow.Author.Needs.{needs}
-use Rattle.block.proofs.right.Statement.{statement}
-use Rattle.block.proofs.right.Tie as tie
+use Rattle.block.proofs.reading.right.Statement.{statement}
+use Rattle.block.proofs.reading.right.Tie as tie
 
 -- word 4, and that the last arm is word 7
 word-four : (k : tie.At-match-keys4) → k .before .word .result ≡ wordAt (now (k .before .before .before .args .b)) 4

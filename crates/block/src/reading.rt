@@ -1,0 +1,193 @@
+// Reading a block: one pass for words above 32748 and the check, then the layout; opening, and the value bytes.
+use crate::Opened;
+use crate::Words;
+use crate::weigh;
+use crate::word;
+use answer::Answer;
+use answer::Kind;
+use answer::Refusal;
+ghost use mathlib.Core.Path.{_≡_};
+ghost use Prim.Native.Nat.{_+_, _≤_};
+ghost use lib.ListN.{length};
+ghost use Rattle.answer.specs.Outcome.{outcome, done};
+ghost use Rattle.answer.specs.Checks.{firstFail};
+ghost use Rattle.answer.specs.Places.{firstIn};
+ghost use Rattle.block.specs.Layout.{headerOf, within, rightAt, filled, firstWrong};
+ghost use Rattle.block.specs.Open.{firstAbove, cleanCheck, blockLines, opening, valueBytes, valueStart, wordsOf, opened};
+
+// What one pass over a block finds: the first word above 32748, or 0, and the check of words 1 to 255 where there is none.
+struct Seen {
+    dirty: usize,
+    sum: u16,
+}
+
+// One pass over a block: each word is tested before it enters the sum.
+fn scan(b: &[u8]) -> Seen
+    requires { ⌜ 512 ≤ length (now b) ⌝ }
+    ensures { λ r. ⌜ (r .dirty ≡ firstAbove (now (b .entry))) × (r .sum ≡ cleanCheck (now (b .entry))) ⌝ }
+{
+    let mut sum: u32 = 0;
+    let mut i: usize = 1;
+    while i < 256 {
+        let v = word(b, i);
+        if 32748 < v {
+            return Seen { dirty: i, sum: 0 };
+        }
+        sum = weigh(sum, i, v);
+        i += 1;
+    }
+    let last = word(b, 256);
+    if 32748 < last {
+        return Seen { dirty: 256, sum: 0 };
+    }
+    Seen {
+        dirty: 0,
+        sum: (sum % 32749) as u16,
+    }
+}
+
+// low to high, both included.
+fn within(low: u16, v: u16, high: u16) -> bool
+    ensures { λ r. ⌜ r ≡ within low v high ⌝ }
+{
+    if low <= v { v <= high } else { false }
+}
+
+// Word i, from 1 to 7, keeps the layout.
+fn right(b: &[u8], i: usize) -> bool
+    requires { ⌜ 14 ≤ length (now b) ⌝ }
+    requires { ⌜ (1 ≤ i) × (i ≤ 7) ⌝ }
+    ensures { λ r. ⌜ r ≡ rightAt (now (b .entry)) i ⌝ }
+{
+    let v = word(b, i);
+    match i {
+        1 => v == 1987,
+        2 => v != 0,
+        3 => within(1, v, 8),
+        4 => {
+            let holder = word(b, 3);
+            if within(1, v, 8) { holder <= v } else { false }
+        }
+        5 => within(1, v, 70),
+        6 => within(1, v, 16),
+        _ => {
+            let pieces = word(b, 5);
+            within(1, v, pieces)
+        }
+    }
+}
+
+// The first word from `start` to 255 that is not 0, or 0.
+fn first_filled(b: &[u8], start: usize) -> usize
+    requires { ⌜ 510 ≤ length (now b) ⌝ }
+    requires { ⌜ 1 ≤ start ⌝ }
+    ensures { λ r. ⌜ r ≡ firstIn (filled (now (b .entry))) start 256 ⌝ }
+{
+    let mut i = start;
+    while i < 256 {
+        let v = word(b, i);
+        if v != 0 {
+            return i;
+        }
+        i += 1;
+    }
+    0
+}
+
+// The first of words 1 to 255 that breaks the layout, or 0: words 1 to 7, then the words past the values, which are 0.
+fn first_wrong(b: &[u8]) -> usize
+    requires { ⌜ 510 ≤ length (now b) ⌝ }
+    ensures { λ r. ⌜ r ≡ firstWrong (now (b .entry)) ⌝ }
+{
+    let mut i: usize = 1;
+    while i < 8 {
+        let kept = right(b, i);
+        if kept {
+            i += 1;
+        } else {
+            return i;
+        }
+    }
+    let width = word(b, 6);
+    first_filled(b, 8 + width as usize)
+}
+
+// The first block of the rest of a pile, which is block a, for UNREAD, CHECK and HEADER.
+pub fn check_block(rest: &[u8], a: usize) -> Answer
+    requires { ⌜ 512 ≤ length (now rest) ⌝ }
+    ensures { λ r. ⌜ outcome r ≡ firstFail (blockLines (now (rest .entry)) a) (done 0) ⌝ }
+{
+    let seen = scan(rest);
+    let dirty = seen.dirty;
+    if dirty != 0 {
+        return answer::refuse(Kind::Unread, a, 0);
+    }
+    let sum = seen.sum;
+    let kept = word(rest, 256);
+    if sum != kept {
+        return answer::refuse(Kind::Check, a, 0);
+    }
+    let wrong = first_wrong(rest);
+    if wrong != 0 {
+        return answer::refuse(Kind::Header, a, wrong);
+    }
+    Answer::Done(0)
+}
+
+// Words 1 to 7 of b.
+fn header(b: &[u8]) -> Words
+    requires { ⌜ 14 ≤ length (now b) ⌝ }
+    ensures { λ r. ⌜ wordsOf r ≡ headerOf (now (b .entry)) ⌝ }
+{
+    let mark = word(b, 1);
+    let deal = word(b, 2);
+    let holder = word(b, 3);
+    let people = word(b, 4);
+    let pieces = word(b, 5);
+    let width = word(b, 6);
+    let piece = word(b, 7);
+    Words {
+        mark,
+        deal,
+        holder,
+        people,
+        pieces,
+        width,
+        piece,
+    }
+}
+
+// Opens the first block of a pile.
+pub fn open(pile: &[u8]) -> Opened
+    ensures { λ r. ⌜ opened r ≡ opening (now (pile .entry)) ⌝ }
+{
+    if pile.len() < 512 {
+        return Opened::Refused(Refusal {
+            kind: Kind::Torn,
+            a: 0,
+            b: 0,
+        });
+    }
+    match check_block(pile, 1) {
+        Answer::Refused(r) => Opened::Refused(r),
+        Answer::Done(_) => {
+            let h = header(pile);
+            Opened::Head(h)
+        }
+    }
+}
+
+// The value bytes of the first block of a pile, as a part of the pile and not a copy; of a refused block the empty part.
+pub fn values(pile: &[u8]) -> &[u8]
+    ensures content { λ r. ⌜ now r ≡ valueBytes (now (pile .entry)) ⌝ }
+    ensures place { λ r. ⌜ r .ptr ≡ (pile .entry .ptr .0, pile .entry .ptr .1 + valueStart (now (pile .entry))) ⌝ }
+{
+    match open(pile) {
+        Opened::Head(h) => {
+            let width = h.width;
+            let end = 14 + 2 * (width as usize);
+            &pile[14..end]
+        }
+        Opened::Refused(_) => &pile[0..0],
+    }
+}
