@@ -6,7 +6,9 @@ use mathlib.Core.Logic.{_⊎_, inl, inr, ⊎-elim, _≢_}
 use mathlib.Core.List.{List}
 use Prim.Native.Nat.{ℕ, _+_, _-_, _*_, _%_, _≤_, _<_}
 use native.Mathlib.Nat.{eq-or-lt-of-le, add-mul}
+use native.Mathlib.Decide.{decLt}
 use native.Mathlib.Omega.{arith}
+use lib.Arith.{lt-of-le-ne}
 use lib.Dec.{eqb}
 use lib.ListN.{length}
 use borrow.Author.Tests.{eqb-true, eqb-false, eq-eqb, ne-eqb}
@@ -149,17 +151,48 @@ module _ (b c : List ℕ) (i j : ℕ) (from : 1 ≤ i) (order : i < j) (to : j �
       (sym (cancel (j - i) y x (omega arith) (omega arith)
       (true-b .clean .small j (omega arith) (omega arith)) (true-b .clean .small i from (omega arith)) r))
 
-pub exchanged : (b : List ℕ) (i j : ℕ) → TrueBlock b → 1 ≤ i → i < j → j ≤ 255 → wordAt b i ≢ wordAt b j
-    → opening (putAt (putAt b i (wordAt b j)) j (wordAt b i)) ≡ refused 16 1 0
-exchanged b i j t l less h ne =
-    let m = putAt b i (wordAt b j) in
-    let c = putAt m j (wordAt b i) in
-    let r : 2 * i ≤ length b = omega (arith, t .long) in
-    let s : 2 * j ≤ length m = rw (length-put b i (wordAt b j)) (omega (arith, t .long)) in
-    let from : 1 ≤ j = omega arith in
-    let long : 512 ≤ length c = rw (length-put m j (wordAt b i), length-put b i (wordAt b j)) (t .long) in
-    let same : (k : ℕ) → 1 ≤ k → k ≤ 256 → k ≢ i → k ≢ j → wordAt c k ≡ wordAt b k = λ k q _ off-i off-j.
-    word-put-other m j (wordAt b i) from s k q off-j ∙ word-put-other b i (wordAt b j) l r k q off-i in
-    let at-i : wordAt c i ≡ wordAt b j = word-put-other m j (wordAt b i) from s i l (λ e. omega arith) ∙ word-put-same b i (wordAt b j) l r in
-    let at-j : wordAt c j ≡ wordAt b i = word-put-same m j (wordAt b i) from s in
-    by-check c long (exchanged-small b c i j l less h same at-i at-j ne t) (exchanged-check b c i j l less h same at-i at-j ne t)
+-- the two stores of an exchange
+module _ (b : List ℕ) (i j : ℕ) (t : TrueBlock b) (from-i : 1 ≤ i) (to-i : i ≤ 255) (from-j : 1 ≤ j) (to-j : j ≤ 255) (ne : wordAt b i ≢ wordAt b j) where
+  abbrev stored : List ℕ
+  stored = putAt b i (wordAt b j)
+
+  abbrev swapped : List ℕ
+  swapped = putAt stored j (wordAt b i)
+
+  unlike : i ≢ j
+  unlike e = ne (ap (wordAt b) e)
+
+  room : 2 * i ≤ length b
+  room = omega (arith, t .long)
+
+  room-stored : 2 * j ≤ length stored
+  room-stored = rw (length-put b i (wordAt b j)) (omega (arith, t .long))
+
+  long : 512 ≤ length swapped
+  long = rw (length-put stored j (wordAt b i), length-put b i (wordAt b j)) (t .long)
+
+  kept : (k : ℕ) → 1 ≤ k → k ≤ 256 → k ≢ i → k ≢ j → wordAt swapped k ≡ wordAt b k
+  kept k q _ off-i off-j =
+      word-put-other stored j (wordAt b i) from-j room-stored k q off-j ∙ word-put-other b i (wordAt b j) from-i room k q off-i
+
+  now-i : wordAt swapped i ≡ wordAt b j
+  now-i = word-put-other stored j (wordAt b i) from-j room-stored i from-i unlike ∙ word-put-same b i (wordAt b j) from-i room
+
+  now-j : wordAt swapped j ≡ wordAt b i
+  now-j = word-put-same stored j (wordAt b i) from-j room-stored
+
+  pub exchanged : opening (putAt (putAt b i (wordAt b j)) j (wordAt b i)) ≡ refused 16 1 0
+  exchanged = go (decLt i j)
+    where
+      go : Dec (i < j) → opening swapped ≡ refused 16 1 0
+      go (yes less) =
+          by-check swapped long
+          (exchanged-small b swapped i j from-i less to-j kept now-i now-j ne t)
+          (exchanged-check b swapped i j from-i less to-j kept now-i now-j ne t)
+      go (no f) =
+          let less : j < i = lt-of-le-ne (omega arith) (λ e. unlike (sym e)) in
+          let other : wordAt b j ≢ wordAt b i = λ e. ne (sym e) in
+          let back : (k : ℕ) → 1 ≤ k → k ≤ 256 → k ≢ j → k ≢ i → wordAt swapped k ≡ wordAt b k = λ k q h off-j off-i. kept k q h off-i off-j in
+          by-check swapped long
+          (exchanged-small b swapped j i from-j less to-i back now-j now-i other t)
+          (exchanged-check b swapped j i from-j less to-i back now-j now-i other t)

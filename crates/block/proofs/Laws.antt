@@ -18,11 +18,8 @@ opens-written = written.opens-written
 pub written-words : law.WrittenWords
 written-words = written.written-words
 
-pub true-passes : law.TruePasses
-true-passes = «open».true-passes
-
-pub passes-true : law.PassesTrue
-passes-true = «open».passes-true
+pub true-means : law.TrueMeans
+true-means b a = («open».true-passes b a, «open».passes-true b a)
 
 pub true-small : law.TrueSmall
 true-small b t = t .clean .small

@@ -31,12 +31,9 @@ WrittenWords = (h : Words) (vs rest : List ℕ) → Buildable h vs
     → (headerOf (blockBytes h vs ++ rest) ≡ wordsOf h)
     × ((i : ℕ) → 1 ≤ i → i ≤ length vs → wordAt (blockBytes h vs ++ rest) (7 + i) ≡ getD vs (i - 1) 0)
 
--- "A true block is one that passes 15, 16 and 17": as block a of a pile, whatever a is.
-abbrev pub TruePasses : Type 0
-TruePasses = (b : List ℕ) (a : ℕ) → TrueBlock b → Passed (blockLines b a)
-
-abbrev pub PassesTrue : Type 0
-PassesTrue = (b : List ℕ) (a : ℕ) → 512 ≤ length b → Passed (blockLines b a) → TrueBlock b
+-- "A true block is one that passes 15, 16 and 17": as block a of a pile, whatever a is; and whatever passes them is one.
+abbrev pub TrueMeans : Type 0
+TrueMeans = (b : List ℕ) (a : ℕ) → (TrueBlock b → Passed (blockLines b a)) × (512 ≤ length b → Passed (blockLines b a) → TrueBlock b)
 
 -- "all its words are at most 32748"
 abbrev pub TrueSmall : Type 0
@@ -49,7 +46,7 @@ TrueOpens = (pile : List ℕ) → TrueBlock pile → opening pile ≡ done (head
 abbrev pub OpensTrue : Type 0
 OpensTrue = (pile ws : List ℕ) → opening pile ≡ done ws → TrueBlock pile × (ws ≡ headerOf pile)
 
--- "changing any one word .. makes a block that is refused": a word above 32748 is UNREAD, any other is CHECK.
+-- "changing any one word .. makes a block that is refused": v is any other value. One above 32748 is UNREAD, any other CHECK.
 abbrev pub Changed : Type 0
 Changed = (b : List ℕ) (i v : ℕ) → TrueBlock b → 1 ≤ i → i ≤ 256 → v ≢ wordAt b i
     → (32748 < v → opening (putAt b i v) ≡ refused 15 1 0)
@@ -57,7 +54,7 @@ Changed = (b : List ℕ) (i v : ℕ) → TrueBlock b → 1 ≤ i → i ≤ 256 �
 
 -- "or exchanging two unequal words among the first 255, makes a block that is refused": CHECK.
 abbrev pub Exchanged : Type 0
-Exchanged = (b : List ℕ) (i j : ℕ) → TrueBlock b → 1 ≤ i → i < j → j ≤ 255 → wordAt b i ≢ wordAt b j
+Exchanged = (b : List ℕ) (i j : ℕ) → TrueBlock b → 1 ≤ i → i ≤ 255 → 1 ≤ j → j ≤ 255 → wordAt b i ≢ wordAt b j
     → opening (putAt (putAt b i (wordAt b j)) j (wordAt b i)) ≡ refused 16 1 0
 
 -- "Opening takes the first 512 bytes of what it is lent": no other byte counts, for the value bytes neither.
@@ -71,6 +68,7 @@ pub data Refusable : ℕ → ℕ → ℕ → Type 0 where
   by-check : Refusable 16 1 0
   by-header : {b : ℕ} → 1 ≤ b → b ≤ 255 → Refusable 17 1 b
 
+-- Opening gives no other: TORN, UNREAD, CHECK, or HEADER with a word from 1 to 255.
 abbrev pub WhichRefusals : Type 0
 WhichRefusals = (pile : List ℕ) (m a b : ℕ) → opening pile ≡ refused m a b → Refusable m a b
 

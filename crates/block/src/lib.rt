@@ -40,7 +40,8 @@ pub fn word(b: &[u8], i: usize) -> u16
     (b[at] as u16) * 256 + (b[at + 1] as u16)
 }
 
-// One step of a check: the one place where a word enters a sum. A word above 32748 never does.
+// One step of a check: the one place where a word enters a sum. A word above 32748 never does. Each word adds at most
+// 255 x 32748 = 8350740, so the sum of 255 words fits.
 fn weigh(sum: u32, i: usize, v: u16) -> u32
     requires { ⌜ v ≤ 32748 ⌝ }
     requires { ⌜ (1 ≤ i) × (i ≤ 255) × (sum ≤ (i - 1) * 8350740) ⌝ }
