@@ -81,7 +81,8 @@ changed b i v t l h ne =
 
 -- ---- words i and j of the first 255 of the true block b, unequal, are exchanged, which gives c
 module _ (b c : List ℕ) (i j : ℕ) (from : 1 ≤ i) (order : i < j) (to : j ≤ 255)
-    (same : (k : ℕ) → 1 ≤ k → k ≤ 256 → k ≢ i → k ≢ j → wordAt c k ≡ wordAt b k) (at-i : wordAt c i ≡ wordAt b j) (at-j : wordAt c j ≡ wordAt b i)
+    (same : (k : ℕ) → 1 ≤ k → k ≤ 256 → k ≢ i → k ≢ j → wordAt c k ≡ wordAt b k)
+    (at-i : wordAt c i ≡ wordAt b j) (at-j : wordAt c j ≡ wordAt b i)
     (other : wordAt b i ≢ wordAt b j) (true-b : TrueBlock b) where
   exchanged-small : Small c 256
   exchanged-small =

@@ -32,7 +32,9 @@ cast-result-2 : tie.Need-cast-result-2
 cast-result-2 c = omega (arith, c .shared-slice-known2 .given (2 * (c .before .before .args .i - 1) + 1))
 
 add-result-2 : tie.Need-add-result-2
-add-result-2 c = omega (arith, c .before .shared-slice-known .given (2 * (c .before .before .args .i - 1)), c .shared-slice-known2 .given (2 * (c .before .before .args .i - 1) + 1))
+add-result-2 c =
+    let at = 2 * (c .before .before .args .i - 1) in
+    omega (arith, c .before .shared-slice-known .given at, c .shared-slice-known2 .given (at + 1))
 
 returns : tie.Need-returns
 unfolding wordAt
