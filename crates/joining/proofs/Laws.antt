@@ -1,0 +1,63 @@
+-- This room's laws, proved: each by its name in specs/Laws.antt. Assumes nothing.
+use mathlib.Core.Path.{_≡_, ap, _∙_}
+use mathlib.Core.List.{_++_}
+use Prim.Native.Nat.{ℕ}
+use native.Mathlib.Omega.{arith}
+use lib.ListN.{length, drop}
+use Rattle.answer.specs.Lent.{over}
+use Rattle.answer.proofs.LentLaws as lent
+use Rattle.field.specs.Joined.{joined}
+use Rattle.field.proofs.RunLaws.{run-length}
+use Rattle.joining.specs.Pile.{width}
+use Rattle.joining.specs.Joined.{joining}
+use Rattle.joining.specs.Secret.{column, secret, joinedInto}
+use Rattle.joining.specs.Laws as law
+use Rattle.joining.proofs.ConflictLaws.{by-first, with-first}
+use Rattle.joining.proofs.SoundLaws as sound
+use Rattle.joining.proofs.PolyLaws as poly
+use Rattle.joining.proofs.OrderLaws as order
+
+pub joins-then : law.JoinsThen
+joins-then = sound.joins-then
+
+pub then-joins : law.ThenJoins
+then-joins = sound.then-joins
+
+pub lacks-then : law.LacksThen
+lacks-then = sound.lacks-then
+
+pub no-blocks : law.NoBlocks
+no-blocks = sound.no-blocks
+
+pub conflict-by-first : law.ConflictByFirst
+conflict-by-first = by-first
+
+pub conflict-with-first : law.ConflictWithFirst
+conflict-with-first = with-first
+
+pub joined-secret : law.JoinedSecret
+joined-secret pile room w i e l h =
+    let t = sound.then-joins pile room w e in
+    poly.joined-secret pile room w t i l (omega (arith, t .is))
+
+pub order-free : law.OrderFree
+order-free pile other room w e whole few true-other g f =
+    let t = sound.then-joins pile room w e in
+    let u = order.other-joins pile other room w t whole few true-other g f in
+    (sound.joins-then other room w u, order.same-secret pile other room w t u f)
+
+pub any-order : law.AnyOrder
+any-order pile other room w e whole few g f =
+    let t = sound.then-joins pile room w e in
+    order-free pile other room w e whole few (order.true-within pile other (t .sound .blocks-true) f) (order.among pile other g) (order.among other pile f)
+
+pub result-writes : law.ResultWrites
+unfolding secret joinedInto over
+result-writes pile old w e =
+    let t = sound.then-joins pile (length old) w e in
+    let n : length (secret pile) ≡ w = run-length (λ i. joined (column pile i)) 1 (width pile) ∙ t .is in
+    (n, lent.result-writes (joining pile (length old)) w (secret pile) old e ∙ ap (λ (x : ℕ). secret pile ++ drop x old) n)
+
+pub refusal-keeps : law.RefusalKeeps
+unfolding joinedInto
+refusal-keeps pile old m a b e = lent.refusal-keeps (joining pile (length old)) m a b (secret pile) old e

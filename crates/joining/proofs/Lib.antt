@@ -1,0 +1,11 @@
+pub mod PileLaws
+pub mod WalkLaws
+pub mod TableLaws
+pub mod ConflictLaws
+pub mod EnoughLaws
+pub mod ChainLaws
+pub mod SecretLaws
+pub mod SoundLaws
+pub mod PolyLaws
+pub mod OrderLaws
+pub mod Laws

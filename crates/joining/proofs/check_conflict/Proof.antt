@@ -1,0 +1,124 @@
+-- `joining::check_conflict` meets its contract. The invariant: no block below a is contradicted, and the lowest that is lies from a on.
+-- Assumes nothing.
+use native.Mathlib.Omega.{arith}
+use borrow.Author.Needs.{needs}
+use mathlib.Core.Path.{_≡_, sym, ap, _∙_}
+use Prim.Native.Nat.{_-_, _≤_}
+use lib.ListN.{getD}
+use Rattle.answer.specs.Outcome.{refused}
+use Rattle.joining.specs.Pile.{blocks, pieceAt, placeOf, differIn}
+use Rattle.joining.proofs.PileLaws.{piece-in}
+use Rattle.joining.proofs.TableLaws.{place-at}
+use Rattle.joining.proofs.ConflictLaws.{Seek, seek-start, seek-on, seek-stops, seek-end, place-is}
+use Rattle.joining.proofs.check_conflict.Statement.{statement}
+use Rattle.joining.proofs.check_conflict.Tie as tie
+
+abbrev Inv-loop : tie.InvT-loop
+Inv-loop pile table end a₀ a = Seek pile a
+
+abbrev μ-loop : tie.MeasureT-loop
+μ-loop pile table end a₀ a = end - a
+
+inside : (c : tie.In-loop Inv-loop μ-loop) → (1 ≤ c .before .loop .a) × (c .before .loop .a ≤ blocks (c .before .before .before .args .pile .now))
+unfolding blocks
+inside c = (c .before .loop .inv .from, omega arith)
+
+piece : (c : tie.After-word Inv-loop μ-loop) → (1 ≤ c .word .result) × (c .word .result ≤ 70)
+piece c =
+    let l = c .before .before in
+    let d = l .before .before in
+    let p = piece-in (d .args .pile .now) (d .pre .0) (l .loop .a) (inside (c .before) .0) (inside (c .before) .1) in
+    let e = c .word .ensures in
+    (omega (arith, p .0, e), omega (arith, p .1, e))
+
+-- what the table says of the piece of block a
+place : (c : tie.After-word Inv-loop μ-loop)
+    → getD (c .before .before .before .before .args .table .now) (c .word .result - 1) 0
+    ≡ placeOf (c .before .before .before .before .args .pile .now) (pieceAt (c .before .before .before .before .args .pile .now) (c .before .before .loop .a))
+place c =
+    let d = c .before .before .before .before in
+    place-at (d .args .pile .now) (d .args .table .now) (c .word .result) _ (c .word .ensures) (piece c .0) (piece c .1) (d .pre .1)
+
+add-end : tie.Need-add-end Inv-loop μ-loop
+add-end c = omega arith
+
+loop-holds : tie.Need-loop-holds Inv-loop μ-loop
+loop-holds c = seek-start (c .before .args .pile .now)
+
+word-requires : tie.Need-word-requires Inv-loop μ-loop
+word-requires c κs = (inside c .0, inside c .1, omega arith, omega arith)
+
+cast-at : tie.Need-cast-at Inv-loop μ-loop
+cast-at c = search needs
+
+sub-at : tie.Need-sub-at Inv-loop μ-loop
+sub-at c = omega (arith, piece c .0)
+
+mul-b : tie.Need-mul-b Inv-loop μ-loop
+mul-b c = omega (arith, piece c .1)
+
+element-copy-out-b : tie.Need-element-copy-out-b Inv-loop μ-loop
+element-copy-out-b c = omega (arith, piece c .1)
+
+differ-in-requires : tie.Need-differ-in-requires Inv-loop μ-loop
+differ-in-requires c κs =
+    let w = c .before in
+    let l = w .before .before in
+    let d = l .before .before in
+    let p = place-is (d .args .pile .now) (l .loop .a) (inside (w .before) .0) (inside (w .before) .1) in
+    let e = place w in
+    (d .pre .0, (inside (w .before) .0, inside (w .before) .1, omega (arith, p .0 .from, e), omega (arith, p .0 .to, e)))
+
+refuse-requires : tie.Need-refuse-requires Inv-loop μ-loop
+refuse-requires c κs = search needs
+
+returns : tie.Need-returns Inv-loop μ-loop
+returns c =
+    let t = c .before in
+    let w = t .before .before .before in
+    let l = w .before .before in
+    let p = l .before .before .args .pile .now in
+    let e = place w in
+    c .refuse .ensures ∙ ap (refused 19 (l .loop .a)) e
+    ∙ seek-stops p (l .loop .a) (inside (w .before) .1) (l .loop .inv) (λ z. t .if1 .taken (t .before .differ-in .ensures ∙ ap (differIn p (l .loop .a)) e ∙ z))
+
+add-a : tie.Need-add-a Inv-loop μ-loop
+add-a c = omega arith
+
+loop-less : tie.Need-loop-less Inv-loop μ-loop
+loop-less c = omega arith
+
+loop-again : tie.Need-loop-again Inv-loop μ-loop
+loop-again c =
+    let w = c .before .before .before in
+    let l = w .before .before in
+    let p = l .before .before .args .pile .now in
+    seek-on p (l .loop .a) (inside (w .before) .1) (l .loop .inv)
+    (sym (c .before .differ-in .ensures ∙ ap (differIn p (l .loop .a)) (place w)) ∙ c .if1 .left)
+
+returns-2 : tie.Need-returns-2 Inv-loop μ-loop
+unfolding blocks
+returns-2 c =
+    let l = c .before in
+    seek-end (l .before .before .args .pile .now) (l .loop .a) (c .loop-test .left) (l .loop .inv)
+
+pub check-conflict-spec : {M : Type 1} → statement M
+check-conflict-spec =
+    tie.close
+    (tie.spec
+    Inv-loop
+    μ-loop
+    add-end
+    loop-holds
+    word-requires
+    cast-at
+    sub-at
+    mul-b
+    element-copy-out-b
+    differ-in-requires
+    refuse-requires
+    returns
+    add-a
+    loop-less
+    loop-again
+    returns-2)

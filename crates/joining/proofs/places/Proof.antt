@@ -1,0 +1,102 @@
+-- `joining::places` meets its contract. The invariant: the table is that of the blocks before block a. Assumes nothing.
+use mathlib.Core.Path.{_≡_, ap, _∙_}
+use mathlib.Core.Logic.{⊎-elim}
+use Prim.Native.Nat.{_+_, _-_, _≤_}
+use native.Mathlib.Omega.{arith}
+use Rattle.joining.specs.Pile.{blocks}
+use Rattle.joining.proofs.PileLaws.{piece-in}
+use Rattle.joining.proofs.TableLaws.{tableTo, table-start, table-end, turn-kept, turn-new}
+use borrow.Author.Needs.{needs}
+use Rattle.joining.proofs.places.Statement.{statement}
+use Rattle.joining.proofs.places.Tie as tie
+
+abbrev Inv-loop : tie.InvT-loop
+Inv-loop pile end table₀ a₀ table a = (1 ≤ a) × (a ≤ blocks pile + 1) × (table ≡ tableTo pile a)
+
+abbrev μ-loop : tie.MeasureT-loop
+μ-loop pile end table₀ a₀ table a = end - a
+
+add-end : tie.Need-add-end Inv-loop μ-loop
+add-end c = omega arith
+
+loop-holds : tie.Need-loop-holds Inv-loop μ-loop
+loop-holds c = (omega arith, omega arith, table-start (c .before .args .pile .now))
+
+word-requires : tie.Need-word-requires Inv-loop μ-loop
+unfolding blocks
+word-requires c κs = omega arith
+
+piece : (c : tie.After-word Inv-loop μ-loop) → (1 ≤ c .word .result) × (c .word .result ≤ 70)
+unfolding blocks
+piece c =
+    let l = c .before .before in
+    let d = l .before .before in
+    let p = piece-in (d .args .pile .now) (d .pre) (l .loop .a) (l .loop .inv .0) (omega arith) in
+    let e = c .word .ensures in
+    (omega (arith, p .0, e), omega (arith, p .1, e))
+
+cast-at : tie.Need-cast-at Inv-loop μ-loop
+cast-at c = search needs
+
+sub-at : tie.Need-sub-at Inv-loop μ-loop
+sub-at c = omega (arith, piece c .0)
+
+mul-if1 : tie.Need-mul-if1 Inv-loop μ-loop
+mul-if1 c = omega (arith, piece c .1)
+
+array-read-if1 : tie.Need-array-read-if1 Inv-loop μ-loop
+array-read-if1 c = omega (arith, piece c .1)
+
+mul-table : tie.Need-mul-table Inv-loop μ-loop
+mul-table c = omega (arith, piece (c .before) .1)
+
+array-write-table : tie.Need-array-write-table Inv-loop μ-loop
+array-write-table c = omega (arith, piece (c .before) .1)
+
+add-a : tie.Need-add-a Inv-loop μ-loop
+add-a c = omega arith
+
+loop-less : tie.Need-loop-less Inv-loop μ-loop
+loop-less c = omega arith
+
+loop-again : tie.Need-loop-again Inv-loop μ-loop
+unfolding blocks
+loop-again c =
+    let w = c .before in
+    let l = w .before .before in
+    let p = l .before .before .args .pile .now in (
+      omega arith,
+      omega arith,
+      ⊎-elim
+          (λ t. t .1 ∙ turn-new p (l .loop .table) (l .loop .a) (w .word .result) (w .word .ensures) (l .loop .inv .0) (piece w .0) (piece w .1) (l .loop .inv .2) (t .0 .taken))
+          (λ t. t .1 ∙ turn-kept p (l .loop .table) (l .loop .a) (w .word .result) (w .word .ensures) (l .loop .inv .0) (piece w .0) (piece w .1) (l .loop .inv .2) (t .0 .left))
+          (c .if1 .came),
+    )
+
+returns : tie.Need-returns Inv-loop μ-loop
+unfolding blocks
+returns c =
+    let l = c .before .loop in
+    let p = c .before .before .before .args .pile .now in
+    let e : l .a ≡ blocks p + 1 = omega arith in
+    l .inv .2 ∙ ap (tableTo p) e ∙ table-end p
+
+pub places-spec : {M : Type 1} → statement M
+places-spec =
+    tie.close
+    (tie.spec
+    Inv-loop
+    μ-loop
+    add-end
+    loop-holds
+    word-requires
+    cast-at
+    sub-at
+    mul-if1
+    array-read-if1
+    mul-table
+    array-write-table
+    add-a
+    loop-less
+    loop-again
+    returns)

@@ -1,0 +1,100 @@
+-- The laws that joining owes; their proofs are in proofs/Laws.antt.
+-- Assumes nothing.
+use Prim.Native.Nat.{ℕ, _-_, _%_, _≤_}
+use mathlib.Core.Path.{_≡_}
+use mathlib.Core.Logic.{_≢_}
+use mathlib.Core.List.{List, _++_}
+use lib.ListN.{length, getD, drop}
+use Rattle.answer.specs.Outcome.{done, refused}
+use Rattle.answer.specs.Places.{found}
+use Rattle.field.specs.Poly.{p, value, Below, One}
+use Rattle.block.specs.Layout.{dealOf}
+use Rattle.joining.specs.Pile.{blocks, restFrom, word, firstBlock, pieceCount, width, pieceAt, placeOf, valueOf, differIn, present}
+use Rattle.joining.specs.Joined.{contradictedBy, conflictAt, joining}
+use Rattle.joining.specs.Secret.{secret, joinedInto}
+use Rattle.joining.specs.True.{TrueBlocks}
+
+-- a is a block of the pile
+abbrev pub In : List ℕ → ℕ → Type 0
+In pile a = (1 ≤ a) × (a ≤ blocks pile)
+
+-- a pile of whole, true blocks, at most 560, that are of one deal and say the same of each piece
+pub record Sound (pile : List ℕ) : Type 0 where
+  pub whole : length pile % 512 ≡ 0
+  pub few : blocks pile ≤ 560
+  pub blocks-true : TrueBlocks pile
+  pub one-deal : (a b : ℕ) → In pile a → In pile b → dealOf (restFrom pile a) ≡ dealOf (restFrom pile b)
+  pub agree : (a b : ℕ) → In pile a → In pile b → pieceAt pile a ≡ pieceAt pile b → (i : ℕ) → 1 ≤ i → i ≤ width pile → valueOf pile a i ≡ valueOf pile b i
+
+-- what joins: a sound pile with a block for each piece 1 to k, and room for w words
+pub record Joins (pile : List ℕ) (room w : ℕ) : Type 0 where
+  pub sound : Sound pile
+  pub some : 1 ≤ blocks pile
+  pub complete : (j : ℕ) → 1 ≤ j → j ≤ pieceCount pile → (a : ℕ) × In pile a × (pieceAt pile a ≡ j)
+  pub fits : width pile ≤ room
+  pub is : width pile ≡ w
+
+-- Joining gives w exactly where the pile joins.
+abbrev pub JoinsThen : Type 0
+JoinsThen = (pile : List ℕ) (room w : ℕ) → Joins pile room w → joining pile room ≡ done w
+
+abbrev pub ThenJoins : Type 0
+ThenJoins = (pile : List ℕ) (room w : ℕ) → joining pile room ≡ done w → Joins pile room w
+
+-- "some piece of 1 to k missing", "distinct pieces present, k": a sound pile that lacks a piece is SHORT.
+abbrev pub LacksThen : Type 0
+LacksThen = (pile : List ℕ) (room j : ℕ) → Sound pile → 1 ≤ blocks pile → 1 ≤ j → j ≤ pieceCount pile → placeOf pile j ≡ 0
+    → joining pile room ≡ refused 20 (length (present pile)) (pieceCount pile)
+
+-- "A pile of no blocks is SHORT with 0, 0."
+abbrev pub NoBlocks : Type 0
+NoBlocks = (pile : List ℕ) (room : ℕ) → length pile ≡ 0 → joining pile room ≡ refused 20 0 0
+
+-- CONFLICT over all pairs is each block against the first block of its piece.
+abbrev pub ConflictByFirst : Type 0
+ConflictByFirst = (pile : List ℕ) → conflictAt pile ≡ firstBlock pile (λ a. found (differIn pile a (placeOf pile (pieceAt pile a))))
+
+abbrev pub ConflictWithFirst : Type 0
+ConflictWithFirst = (pile : List ℕ) → conflictAt pile ≢ 0 → contradictedBy pile (conflictAt pile) ≡ placeOf pile (pieceAt pile (conflictAt pile))
+
+-- cs are the coefficients of a polynomial of degree below k through (j, value i of piece j), for every block of the pile
+pub record Fits (pile : List ℕ) (i : ℕ) (cs : List ℕ) : Type 0 where
+  pub degree : length cs ≡ pieceCount pile
+  pub below : Below cs
+  pub meets : (a : ℕ) → In pile a → valueOf pile a i ≡ value cs (pieceAt pile a) % p
+
+-- "Each secret word is the value at 0 of the one polynomial of degree below k through (1, piece 1) to (k, piece k)."
+abbrev pub JoinedSecret : Type 0
+JoinedSecret = (pile : List ℕ) (room w i : ℕ) → joining pile room ≡ done w → 1 ≤ i → i ≤ w
+    → (cs : List ℕ) × One (Fits pile i) cs × (getD (secret pile) (i - 1) 0 ≡ value cs 0)
+
+-- block a of the one pile and block b of the other are alike: their holder (word 3), and with it their check (word 256), left aside
+pub record Alike (pile : List ℕ) (a : ℕ) (other : List ℕ) (b : ℕ) : Type 0 where
+  pub words : (i : ℕ) → 1 ≤ i → i ≤ 255 → i ≢ 3 → word pile a i ≡ word other b i
+
+-- each block of the one pile is alike to one of the other
+pub record Among (pile other : List ℕ) : Type 0 where
+  pub block : (a : ℕ) → In pile a → (b : ℕ) × In other b × Alike pile a other b
+
+-- Order, repeats and holders do not change the secret.
+abbrev pub OrderFree : Type 0
+OrderFree = (pile other : List ℕ) (room w : ℕ) → joining pile room ≡ done w → length other % 512 ≡ 0 → blocks other ≤ 560 → TrueBlocks other
+    → Among pile other → Among other pile → (joining other room ≡ done w) × (secret other ≡ secret pile)
+
+-- each block of the one pile is in the other, word for word
+pub record Within (pile other : List ℕ) : Type 0 where
+  pub block : (a : ℕ) → In pile a → (b : ℕ) × In other b × ((i : ℕ) → 1 ≤ i → i ≤ 256 → word pile a i ≡ word other b i)
+
+-- The same blocks in any order, repeats allowed, give the same answer and the same secret.
+abbrev pub AnyOrder : Type 0
+AnyOrder = (pile other : List ℕ) (room w : ℕ) → joining pile room ≡ done w → length other % 512 ≡ 0 → blocks other ≤ 560
+    → Within pile other → Within other pile → (joining other room ≡ done w) × (secret other ≡ secret pile)
+
+-- "A result writes only .. the first w words; the rest stays."
+abbrev pub ResultWrites : Type 0
+ResultWrites = (pile old : List ℕ) (w : ℕ) → joining pile (length old) ≡ done w
+    → (length (secret pile) ≡ w) × (joinedInto pile old ≡ secret pile ++ drop w old)
+
+-- "A refusal changes nothing lent."
+abbrev pub RefusalKeeps : Type 0
+RefusalKeeps = (pile old : List ℕ) (m a b : ℕ) → joining pile (length old) ≡ refused m a b → joinedInto pile old ≡ old

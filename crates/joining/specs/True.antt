@@ -1,0 +1,21 @@
+-- What the functions below the checks rest on: a pile whose blocks are true, and one that passed every check. Assumes nothing.
+use Prim.Native.Nat.{ℕ, _≤_}
+use mathlib.Core.Bool.{Bool}
+use mathlib.Core.List.{List}
+use Rattle.answer.specs.Places.{found, at}
+use Rattle.block.specs.Open.{TrueBlock}
+use Rattle.joining.specs.Pile.{blocks, restFrom, pieceCount, placeOf}
+
+-- every block is a true block: it passes 15, 16 and 17
+pub record TrueBlocks (pile : List ℕ) : Type 0 where
+  pub block : (a : ℕ) → 1 ≤ a → a ≤ blocks pile → TrueBlock (restFrom pile a)
+
+-- a pile of true blocks, one at least, in which every piece of 1 to k lies in some block
+pub record Full (pile : List ℕ) : Type 0 where
+  pub some : 1 ≤ blocks pile
+  pub blocks-true : TrueBlocks pile
+  pub place : (j : ℕ) → 1 ≤ j → j ≤ pieceCount pile → 1 ≤ placeOf pile j
+
+-- the table has a block for piece j
+abbrev pub marked : List ℕ → ℕ → Bool
+marked table j = found (at table j)
