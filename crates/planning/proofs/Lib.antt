@@ -1,0 +1,9 @@
+pub mod Truth
+pub mod SetLaws
+pub mod SomeLaws
+pub mod LoopLaws
+pub mod LineLaws
+pub mod GroupLaws
+pub mod RowLaws
+pub mod ListedLaws
+pub mod PlannedLaws

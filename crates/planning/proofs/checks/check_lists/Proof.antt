@@ -1,0 +1,174 @@
+-- `planning::checks::check_lists` meets its contract: at each return the lines before have passed.
+-- Assumes nothing.
+use mathlib.Core.Path.{_∙_}
+use mathlib.Core.List.{List, [], _∷_}
+use Prim.Native.Nat.{ℕ}
+use lib.Dec.{eqb}
+use borrow.Author.Needs.{needs}
+use borrow.Author.Tests.{eq-eqb, ne-eqb, lt-ltb, le-ltb}
+use Rattle.answer.specs.Checks.{Line}
+use Rattle.planning.specs.Planned.{people, long, strangers, nobody, opens, listLines}
+use Rattle.planning.proofs.Truth.{or-l, or-r}
+use Rattle.planning.proofs.LineLaws.{said, Says, whole, passes, speaks, silent}
+use Rattle.planning.proofs.SomeLaws.{found-at, found-none}
+use Rattle.planning.proofs.checks.check_lists.Statement.{statement}
+use Rattle.planning.proofs.checks.check_lists.Tie as tie
+
+-- the lines that are left after the first, the second ..
+abbrev left6 : ℕ → List ℕ → List ℕ → List Line
+left6 n r f = opens r ∷ []
+
+abbrev left5 : ℕ → List ℕ → List ℕ → List Line
+left5 n r f = nobody r ∷ left6 n r f
+
+abbrev left4 : ℕ → List ℕ → List ℕ → List Line
+left4 n r f = strangers n 2 f ∷ left5 n r f
+
+abbrev left3 : ℕ → List ℕ → List ℕ → List Line
+left3 n r f = strangers n 1 r ∷ left4 n r f
+
+abbrev left2 : ℕ → List ℕ → List ℕ → List Line
+left2 n r f = long 2 f ∷ left3 n r f
+
+abbrev left1 : ℕ → List ℕ → List ℕ → List Line
+left1 n r f = long 1 r ∷ left2 n r f
+
+abbrev left7 : ℕ → List ℕ → List ℕ → List Line
+left7 n r f = []
+
+-- all lines say what those that are left say
+abbrev Left : tie.Start → (ℕ → List ℕ → List ℕ → List Line) → Type 0
+Left s rest =
+    Says (said (listLines (s .args .people) (s .args .required .now) (s .args .forbidden .now)))
+    (rest (s .args .people) (s .args .required .now) (s .args .forbidden .now))
+
+all : (n : ℕ) (r f : List ℕ) → Says (said (listLines n r f)) (people n ∷ left1 n r f)
+unfolding listLines
+all n r f = whole _
+
+on1 : (c : tie.Else2) → Left (c .before .before .before .before) left1
+unfolding people
+on1 c = passes (all _ _ _) (rw (ne-eqb _ _ (c .before .if1 .left), le-ltb _ _ (c .if2 .left)))
+
+on2 : (c : tie.Else3) → Left (c .before .before .before .before .before) left2
+unfolding long
+on2 c = passes (on1 (c .before)) (le-ltb _ _ (c .if3 .left))
+
+on3 : (c : tie.Else4) → Left (c .before .before .before .before .before .before) left3
+unfolding long
+on3 c = passes (on2 (c .before)) (le-ltb _ _ (c .if4 .left))
+
+on4 : (c : tie.Else5) → Left (c .before .before .before .before .before .before .before .before) left4
+unfolding strangers
+on4 c = passes (on3 (c .before .before)) (found-none (c .before .first-stranger .ensures) (c .if5 .left))
+
+on5 : (c : tie.Else6) → Left (c .before .before .before .before .before .before .before .before .before .before) left5
+unfolding strangers
+on5 c = passes (on4 (c .before .before)) (found-none (c .before .first-stranger2 .ensures) (c .if6 .left))
+
+on6 : (c : tie.Else7) → Left (c .before .before .before .before .before .before .before .before .before .before .before) left6
+unfolding nobody
+on6 c = passes (on5 (c .before)) (ne-eqb _ _ (c .if7 .left))
+
+on7 : (c : tie.Else8) → Left (c .before .before .before .before .before .before .before .before .before .before .before .before .before) left7
+unfolding opens
+on7 c = passes (on6 (c .before .before)) (found-none (c .before .first-empty .ensures) (c .if8 .left))
+
+refuse-requires : tie.Need-refuse-requires
+refuse-requires c κs = search needs
+
+returns : tie.Need-returns
+unfolding people
+returns c = c .refuse .ensures ∙ speaks (all _ _ _) (or-l _ (eq-eqb _ _ (c .before .if1 .taken)))
+
+refuse-requires-2 : tie.Need-refuse-requires-2
+refuse-requires-2 c κs = search needs
+
+returns-2 : tie.Need-returns-2
+unfolding people
+returns-2 c = c .refuse2 .ensures ∙ speaks (all _ _ _) (or-r (eqb (c .before .before .before .before .before .args .people) 0) (lt-ltb _ _ (c .before .if2 .taken)))
+
+refuse-requires-3 : tie.Need-refuse-requires-3
+refuse-requires-3 c κs = search needs
+
+returns-3 : tie.Need-returns-3
+unfolding long
+returns-3 c = c .refuse3 .ensures ∙ speaks (on1 (c .before .before)) (lt-ltb _ _ (c .before .if3 .taken))
+
+refuse-requires-4 : tie.Need-refuse-requires-4
+refuse-requires-4 c κs = search needs
+
+returns-4 : tie.Need-returns-4
+unfolding long
+returns-4 c = c .refuse4 .ensures ∙ speaks (on2 (c .before .before)) (lt-ltb _ _ (c .before .if4 .taken))
+
+first-stranger-requires : tie.Need-first-stranger-requires
+first-stranger-requires c κs = search needs
+
+refuse-requires-5 : tie.Need-refuse-requires-5
+refuse-requires-5 c κs = search needs
+
+returns-5 : tie.Need-returns-5
+unfolding strangers
+returns-5 c =
+    let found = c .before .before .first-stranger .ensures in
+    c .refuse5 .ensures ∙ rw found (speaks (on3 (c .before .before .before)) (found-at found (c .before .if5 .taken)))
+
+first-stranger-requires-2 : tie.Need-first-stranger-requires-2
+first-stranger-requires-2 c κs = search needs
+
+refuse-requires-6 : tie.Need-refuse-requires-6
+refuse-requires-6 c κs = search needs
+
+returns-6 : tie.Need-returns-6
+unfolding strangers
+returns-6 c =
+    let found = c .before .before .first-stranger2 .ensures in
+    c .refuse6 .ensures ∙ rw found (speaks (on4 (c .before .before .before)) (found-at found (c .before .if6 .taken)))
+
+refuse-requires-7 : tie.Need-refuse-requires-7
+refuse-requires-7 c κs = search needs
+
+returns-7 : tie.Need-returns-7
+unfolding nobody
+returns-7 c = c .refuse7 .ensures ∙ speaks (on5 (c .before .before)) (eq-eqb _ _ (c .before .if7 .taken))
+
+first-empty-requires : tie.Need-first-empty-requires
+first-empty-requires c κs = search needs
+
+refuse-requires-8 : tie.Need-refuse-requires-8
+refuse-requires-8 c κs = search needs
+
+returns-8 : tie.Need-returns-8
+unfolding opens
+returns-8 c =
+    let found = c .before .before .first-empty .ensures in
+    c .refuse8 .ensures ∙ rw found (speaks (on6 (c .before .before .before)) (found-at found (c .before .if8 .taken)))
+
+returns-9 : tie.Need-returns-9
+returns-9 c = silent (on7 c)
+
+pub check-lists-spec : {M : Type 1} → statement M
+check-lists-spec =
+    tie.close
+    (tie.spec
+    refuse-requires
+    returns
+    refuse-requires-2
+    returns-2
+    refuse-requires-3
+    returns-3
+    refuse-requires-4
+    returns-4
+    first-stranger-requires
+    refuse-requires-5
+    returns-5
+    first-stranger-requires-2
+    refuse-requires-6
+    returns-6
+    refuse-requires-7
+    returns-7
+    first-empty-requires
+    refuse-requires-8
+    returns-8
+    returns-9)

@@ -1,0 +1,64 @@
+-- `planning::checks::first_around` meets its contract: the set lies inside none of the sets passed.
+-- Assumes nothing.
+use mathlib.Core.Path.{sym, _∙_}
+use Prim.Native.Nat.{_-_}
+use Rattle.planning.specs.Sets.{inside}
+use native.Mathlib.Omega.{arith}
+use lib.ListN.{length}
+use borrow.Author.Needs.{needs}
+use Rattle.planning.proofs.LoopLaws.{PlaceAhead, start, here, next, end}
+use Rattle.planning.proofs.checks.first_around.Statement.{statement}
+use Rattle.planning.proofs.checks.first_around.Tie as tie
+
+abbrev Inv-loop : tie.InvT-loop
+Inv-loop s forbidden i₀ i = PlaceAhead (inside s) forbidden i
+
+abbrev μ-loop : tie.MeasureT-loop
+μ-loop s forbidden i₀ i = length forbidden - i
+
+loop-holds : tie.Need-loop-holds Inv-loop μ-loop
+loop-holds c = start _ _
+
+mul-inside : tie.Need-mul-inside Inv-loop μ-loop
+mul-inside c = search needs
+
+shared-slice-read-inside : tie.Need-shared-slice-read-inside Inv-loop μ-loop
+shared-slice-read-inside c = search needs
+
+inside-requires : tie.Need-inside-requires Inv-loop μ-loop
+inside-requires c κs = search needs
+
+add-result : tie.Need-add-result Inv-loop μ-loop
+add-result c = search needs
+
+returns : tie.Need-returns Inv-loop μ-loop
+returns c = here (c .before .before .before .before .loop .inv) (omega arith) (sym (c .before .inside .ensures) ∙ c .if1 .taken)
+
+add-i : tie.Need-add-i Inv-loop μ-loop
+add-i c = search needs
+
+loop-less : tie.Need-loop-less Inv-loop μ-loop
+loop-less c = search needs
+
+loop-again : tie.Need-loop-again Inv-loop μ-loop
+loop-again c = next (c .before .before .before .before .loop .inv) (omega arith) (sym (c .before .inside .ensures) ∙ c .if1 .left)
+
+returns-2 : tie.Need-returns-2 Inv-loop μ-loop
+returns-2 c = end (c .before .loop .inv) (omega arith)
+
+pub first-around-spec : {M : Type 1} → statement M
+first-around-spec =
+    tie.close
+    (tie.spec
+    Inv-loop
+    μ-loop
+    loop-holds
+    mul-inside
+    shared-slice-read-inside
+    inside-requires
+    add-result
+    returns
+    add-i
+    loop-less
+    loop-again
+    returns-2)

@@ -1,0 +1,114 @@
+-- `planning::groups::fill` meets its contract: the maximal groups below g have their rows, and k counts them.
+-- Assumes nothing.
+use mathlib.Core.Path.{_≡_, sym, ap, _∙_}
+use mathlib.Core.Logic.{⊎-elim}
+use Prim.Native.Nat.{_-_, _^_, _≤_}
+use native.Mathlib.Omega.{arith}
+use lib.ListN.{set}
+use borrow.Author.Needs.{needs}
+use Rattle.answer.specs.Outcome.{outcome}
+use Rattle.planning.specs.Groups.{maximalBy, groupsBy}
+use Rattle.planning.specs.Flags.{flagged}
+use Rattle.planning.proofs.GroupLaws.{size-le}
+use Rattle.planning.proofs.RowLaws.{empty-rows, Filling, filling-start, filling-miss, filling-hit, filling-as, filling-over, filling-end}
+use Rattle.planning.proofs.PlannedLaws.{filled-over, filled-fits}
+use Rattle.planning.proofs.groups.fill.Statement.{statement}
+use Rattle.planning.proofs.groups.fill.Tie as tie
+
+abbrev Inv-loop : tie.InvT-loop
+Inv-loop f people size rows₀ k₀ g₀ rows k g =
+    (size ≡ 2 ^ people) × (size ≤ 256) × (g ≤ size) × Filling (maximalBy (flagged f) people) g k rows
+
+abbrev μ-loop : tie.MeasureT-loop
+μ-loop f people size rows₀ k₀ g₀ rows k g = size - g
+
+group-count-requires : tie.Need-group-count-requires Inv-loop μ-loop
+group-count-requires c κs = search needs
+
+loop-holds : tie.Need-loop-holds Inv-loop μ-loop
+loop-holds c = (c .group-count .ensures, size-le _ _ (c .before .pre) (c .group-count .ensures), search needs, filling-start empty-rows)
+
+maximal-requires : tie.Need-maximal-requires Inv-loop μ-loop
+maximal-requires c κs = (c .before .before .before .pre, omega arith)
+
+refuse-requires : tie.Need-refuse-requires Inv-loop μ-loop
+refuse-requires c κs = search needs
+
+plan-of-requires : tie.Need-plan-of-requires Inv-loop μ-loop
+plan-of-requires c κs = search needs
+
+returns : tie.Need-returns Inv-loop μ-loop
+unfolding groupsBy
+returns c =
+    let m = c .before .before .before .before in
+    let l = m .before .before .loop in
+    filled-over
+    (filling-over (l .inv .3) _ (omega arith) (sym (m .maximal .ensures) ∙ c .before .before .before .if1 .taken) (c .before .before .if2 .taken))
+    (ap outcome (c .plan-of .ensures .0) ∙ c .before .refuse .ensures)
+    (c .plan-of .ensures .1 ∙ empty-rows)
+
+cast-marks : tie.Need-cast-marks Inv-loop μ-loop
+cast-marks c = search needs
+
+marks-requires : tie.Need-marks-requires Inv-loop μ-loop
+marks-requires c κs = search needs
+
+mul-rows : tie.Need-mul-rows Inv-loop μ-loop
+mul-rows c = omega (arith, c .before .before .before .before .before .loop .inv .3 .few)
+
+array-set-from-rows : tie.Need-array-set-from-rows Inv-loop μ-loop
+array-set-from-rows c = omega (arith, c .before .before .before .before .before .loop .inv .3 .few)
+
+add-k : tie.Need-add-k Inv-loop μ-loop
+add-k c = omega (arith, c .before .before .before .before .before .loop .inv .3 .few)
+
+add-g : tie.Need-add-g Inv-loop μ-loop
+add-g c = search needs
+
+loop-less : tie.Need-loop-less Inv-loop μ-loop
+loop-less c = search needs
+
+loop-again : tie.Need-loop-again Inv-loop μ-loop
+loop-again c =
+    let l = c .before .before .before .loop in
+    let h = l .inv .3 in
+    let m = sym (c .before .maximal .ensures) in (
+      search needs,
+      search needs,
+      search needs,
+      ⊎-elim (λ w. filling-as (filling-hit h (m ∙ w .0 .taken) (w .1 .left)) (w .4) (w .3 ∙ ap (set (l .rows) (l .k)) (w .2 .ensures)))
+          (λ w. filling-as (filling-miss h (m ∙ w .0 .left)) (w .2) (w .1)) (c .if1 .came),
+    )
+
+plan-of-requires-2 : tie.Need-plan-of-requires-2 Inv-loop μ-loop
+plan-of-requires-2 c κs = search needs
+
+returns-2 : tie.Need-returns-2 Inv-loop μ-loop
+unfolding groupsBy
+returns-2 c =
+    let l = c .before .before .loop in
+    let e = filling-end (l .inv .3) (2 ^ c .before .before .before .before .args .people) (omega arith) in
+    filled-fits (l .k) (sym (e .0)) (l .inv .3 .few) (ap outcome (c .plan-of2 .ensures .0)) (c .plan-of2 .ensures .1 ∙ e .1)
+
+pub fill-spec : {M : Type 1} → statement M
+fill-spec =
+    tie.close
+    (tie.spec
+    Inv-loop
+    μ-loop
+    group-count-requires
+    loop-holds
+    maximal-requires
+    refuse-requires
+    plan-of-requires
+    returns
+    cast-marks
+    marks-requires
+    mul-rows
+    array-set-from-rows
+    add-k
+    add-g
+    loop-less
+    loop-again
+    plan-of-requires-2
+    returns-2)

@@ -1,0 +1,59 @@
+-- `planning::groups::flags` meets its contract: the flags below g are right. Assumes nothing.
+use mathlib.Core.Path.{_≡_, refl}
+use Prim.Native.Nat.{_-_, _^_, _≤_}
+use native.Mathlib.Omega.{arith}
+use borrow.Author.Needs.{needs}
+use Rattle.planning.specs.Groups.{authorised}
+use Rattle.planning.specs.Flags.{Flags}
+use Rattle.planning.proofs.GroupLaws.{size-le, flags-none, flags-more}
+use Rattle.planning.proofs.groups.flags.Statement.{statement}
+use Rattle.planning.proofs.groups.flags.Tie as tie
+
+abbrev Inv-loop : tie.InvT-loop
+Inv-loop people required size f₀ g₀ f g = (size ≡ 2 ^ people) × (size ≤ 256) × (g ≤ size) × Flags (authorised required) g f
+
+abbrev μ-loop : tie.MeasureT-loop
+μ-loop people required size f₀ g₀ f g = size - g
+
+group-count-requires : tie.Need-group-count-requires Inv-loop μ-loop
+group-count-requires c κs = search needs
+
+loop-holds : tie.Need-loop-holds Inv-loop μ-loop
+loop-holds c = (c .group-count .ensures, size-le _ _ (c .before .before .pre) (c .group-count .ensures), search needs, flags-none refl)
+
+cast-authorised : tie.Need-cast-authorised Inv-loop μ-loop
+cast-authorised c = search needs
+
+authorised-requires : tie.Need-authorised-requires Inv-loop μ-loop
+authorised-requires c κs = search needs
+
+array-write-f : tie.Need-array-write-f Inv-loop μ-loop
+array-write-f c = search needs
+
+add-g : tie.Need-add-g Inv-loop μ-loop
+add-g c = search needs
+
+loop-less : tie.Need-loop-less Inv-loop μ-loop
+loop-less c = search needs
+
+loop-again : tie.Need-loop-again Inv-loop μ-loop
+loop-again c = (search needs, search needs, search needs, flags-more _ (omega arith) (c .authorised .ensures) (c .before .before .loop .inv .3))
+
+returns : tie.Need-returns Inv-loop μ-loop
+returns c = let e : c .before .loop .g ≡ 2 ^ c .before .before .before .before .args .people = omega arith in rw e at (c .before .loop .inv .3)
+
+pub flags-spec : {M : Type 1} → statement M
+flags-spec =
+    tie.close
+    (tie.spec
+    Inv-loop
+    μ-loop
+    group-count-requires
+    loop-holds
+    cast-authorised
+    authorised-requires
+    array-write-f
+    add-g
+    loop-less
+    loop-again
+    returns)

@@ -1,0 +1,73 @@
+-- What planning answers: document 01, "Numbered refusals and their order", 1 to 7, and the table of rows.
+-- Assumes nothing.
+use mathlib.Core.Bool.{Bool, _||_}
+use mathlib.Core.List.{List, [], _∷_, _++_}
+use Prim.Native.Nat.{ℕ}
+use lib.Dec.{eqb, ltb}
+use lib.ListN.{length}
+use Rattle.answer.specs.declared.Kind.the-variants.{People, LongList, Stranger, Nobody, Open, Clash, Wide}
+use Rattle.answer.specs.Outcome.{Outcome, done, refused}
+use Rattle.answer.specs.Checks.{Line, line, firstFail}
+use Rattle.answer.specs.Places.{firstPlace, found, at}
+use Rattle.planning.specs.Sets.{inside, stranger}
+use Rattle.planning.specs.Groups.{groups, pieceCount, rowsOf}
+
+-- 1 PEOPLE: "n is 0 or above 8"
+unfoldable pub people : ℕ → Line
+people n = line People (eqb n 0 || ltb 8 n) 0 0
+
+-- 2 LONGLIST: "a list has over 256 sets"; a: the list, 1 required, 2 forbidden
+unfoldable pub long : ℕ → List ℕ → Line
+long list sets = line LongList (ltb 256 (length sets)) list 0
+
+-- 3 STRANGER: "a set names a person above n"; the list, the place in it
+unfoldable pub strangers : ℕ → ℕ → List ℕ → Line
+strangers n list sets = line Stranger (found (firstPlace (stranger n) sets)) list (firstPlace (stranger n) sets)
+
+-- 4 NOBODY: "the required list is empty"
+unfoldable pub nobody : List ℕ → Line
+nobody required = line Nobody (eqb (length required) 0) 0 0
+
+-- 5 OPEN: "a required set is empty"; a: its place
+unfoldable pub opens : List ℕ → Line
+opens required = line Open (found (firstPlace (eqb 0) required)) (firstPlace (eqb 0) required) 0
+
+-- the lowest forbidden place of a set around the set s, or 0
+abbrev pub aroundPlace : List ℕ → ℕ → ℕ
+aroundPlace forbidden s = firstPlace (inside s) forbidden
+
+-- the lowest required place of a set that lies inside some forbidden set, or 0
+unfoldable pub clashPlace : List ℕ → List ℕ → ℕ
+clashPlace required forbidden = firstPlace (λ r. found (aroundPlace forbidden r)) required
+
+-- 6 CLASH: "some required set lies inside some forbidden set, equality included"; "lowest required place, then lowest forbidden place"
+unfoldable pub clash : List ℕ → List ℕ → Line
+clash required forbidden =
+    line Clash (found (clashPlace required forbidden)) (clashPlace required forbidden)
+    (aroundPlace forbidden (at required (clashPlace required forbidden)))
+
+-- 7 WIDE: "more than 70 maximal groups"
+unfoldable pub wide : List ℕ → Line
+wide maximals = line Wide (ltb 70 (length maximals)) 0 0
+
+-- refusals 1 to 5, in their order
+unfoldable pub listLines : ℕ → List ℕ → List ℕ → List Line
+listLines n required forbidden =
+    people n ∷ long 1 required ∷ long 2 forbidden ∷ strangers n 1 required ∷ strangers n 2 forbidden ∷ nobody required ∷ opens required ∷ []
+
+-- "Planning checks 1 to 7."
+unfoldable pub planLines : ℕ → List ℕ → List ℕ → List Line
+planLines n required forbidden = listLines n required forbidden ++ clash required forbidden ∷ wide (groups n required) ∷ []
+
+-- what planning answers: the first refusal that is given, or k
+unfoldable pub planned : ℕ → List ℕ → List ℕ → Outcome ℕ
+planned n required forbidden = firstFail (planLines n required forbidden) (done (pieceCount n required))
+
+-- "Rows past k are empty; a refused plan has only empty rows."
+abbrev pub rowsFor : Outcome ℕ → List ℕ → List (List Bool)
+rowsFor (done k) maximals = rowsOf maximals
+rowsFor (refused m a b) maximals = rowsOf []
+
+-- the table of rows that goes with the answer
+unfoldable pub plannedRows : ℕ → List ℕ → List ℕ → List (List Bool)
+plannedRows n required forbidden = rowsFor (planned n required forbidden) (groups n required)

@@ -1,0 +1,31 @@
+-- Sets of people: "A set is a 16-bit number: person i is worth 2^(i−1)." People are numbered from 1.
+-- Assumes nothing.
+use mathlib.Core.Bool.{Bool, true, not, _&&_, _||_}
+use mathlib.Core.List.{List, [], _∷_}
+use Prim.Native.Nat.{ℕ, zero, suc, _-_, _/_, _%_, _^_}
+use lib.Dec.{eqb, leb}
+
+-- what person i is worth
+abbrev pub worth : ℕ → ℕ
+worth i = 2 ^ (i - 1)
+
+-- person i is in the set s
+unfoldable pub member : ℕ → ℕ → Bool
+member i s = eqb (s / worth i % 2) 1
+
+-- the test holds of each of the numbers 1 to c
+unfoldable pub each : ℕ → (ℕ → Bool) → Bool
+each zero test = true
+each (suc c) test = each c test && test (suc c)
+
+-- the set a lies inside the set b, equality included: each person of a is in b
+unfoldable pub inside : ℕ → ℕ → Bool
+inside a b = each 16 (λ i. not (member i a) || member i b)
+
+-- the set s names a person above n
+unfoldable pub stranger : ℕ → ℕ → Bool
+stranger n s = leb (2 ^ n) s
+
+-- the row of member marks of a group: the i-th mark is whether person i is in it
+unfoldable pub marks : ℕ → List Bool
+marks g = member 1 g ∷ member 2 g ∷ member 3 g ∷ member 4 g ∷ member 5 g ∷ member 6 g ∷ member 7 g ∷ member 8 g ∷ []
