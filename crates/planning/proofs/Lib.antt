@@ -4,6 +4,11 @@ pub mod SomeLaws
 pub mod LoopLaws
 pub mod LineLaws
 pub mod GroupLaws
+pub mod HoldingLaws
 pub mod RowLaws
 pub mod ListedLaws
 pub mod PlannedLaws
+pub mod FamilyLaws
+pub mod AnswerLaws
+pub mod Laws
+pub mod Cases

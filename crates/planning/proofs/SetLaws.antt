@@ -10,7 +10,7 @@ use native.Mathlib.Numerals.{add-one}
 use native.Mathlib.Omega.{arith}
 use lib.Dec.{eqb, lit<}
 use lib.Pow.{pow-pos, pow-mono, shr-shr}
-use lib.Bits.{bitAnd, and-step, and-shr}
+use lib.Bits.{bitAnd, and-step, and-shr, and-zero-r}
 use borrow.Author.Tests.{eq-eqb, eqb-true, eqb-false, ne-eqb, le-leb, leb-true}
 use Rattle.planning.specs.Sets.{worth, member, inside, stranger}
 use Rattle.planning.proofs.Truth.{never, decided, surely, or-cases, or-l, or-r, neither, not-so, so-not, each-at, each-of, each-fails}
@@ -173,3 +173,11 @@ stranger-means n s small = (
       (suc (n + r .0), omega arith, member-le 16 (suc (n + r .0)) s small (omega arith) m, m)),
   (λ m. surely (λ e. omega (arith, member-le n (m .0) s (lt-of-not-le (λ h. never e (le-leb _ _ h))) (omega arith) (m .3)))),
 )
+
+-- ---- the empty set has no set inside it but itself
+pub inside-empty : (s : ℕ) → 1 ≤ s → s < 2 ^ 16 → inside s 0 ≡ true → ⊥
+inside-empty s h l t = let e : bitAnd s 0 ≡ s = eqb-true _ _ (inside-test s 0 l ∙ t) in omega (arith, and-zero-r s)
+
+-- a group of at most eight people is a set of 16 bits
+pub group-small : (n s : ℕ) → n ≤ 8 → s < 2 ^ n → s < 2 ^ 16
+group-small n s few h = let p : 2 ^ n ≤ 2 ^ 8 = pow-mono few in omega arith

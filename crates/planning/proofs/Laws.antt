@@ -1,0 +1,62 @@
+-- This room's laws, proved: each by its name in specs/Laws.antt. Assumes nothing.
+use mathlib.Core.Path.{_≡_, sym, _∙_}
+use mathlib.Core.Bool.{Bool}
+use mathlib.Core.List.{List}
+use Rattle.answer.specs.declared.Answer.{Answer}
+use Rattle.answer.proofs.OneLaws.{outcome-one}
+use Rattle.planning.specs.declared.table.Plan.{Plan}
+use Rattle.planning.specs.Laws as law
+use Rattle.planning.proofs.SetLaws as set
+use Rattle.planning.proofs.ListedLaws as lists
+use Rattle.planning.proofs.HoldingLaws as holding
+use Rattle.planning.proofs.AnswerLaws as answer
+
+pub stranger-means : law.StrangerMeans
+stranger-means = set.stranger-means
+
+pub inside-means : law.InsideMeans
+inside-means = set.inside-means
+
+pub listed-means : law.ListedMeans
+listed-means = lists.listed
+
+pub clash-families : law.ClashFamilies
+clash-families = answer.clash-families
+
+pub clash-places : law.ClashPlaces
+clash-places = answer.clash-places
+
+pub groups-are : law.GroupsAre
+groups-are = holding.groups-are
+
+pub groups-rise : law.GroupsRise
+groups-rise = holding.groups-rise
+
+pub gathers : law.Gathers
+gathers = holding.gathers
+
+pub lacks : law.Lacks
+lacks = holding.lacks
+
+pub some-piece : law.SomePiece
+some-piece = answer.some-pieces
+
+pub forbidden-free : law.ForbiddenFree
+forbidden-free = answer.forbidden-free
+
+pub rows-mean : law.RowsMean
+rows-mean = answer.rows-mean
+
+pub refused-rows : law.RefusedRows
+refused-rows = answer.refused-rows
+
+-- antt compares two records by their fields: what is shown of `made` at a plan's fields is shown of the plan
+abbrev made : Answer → List (List Bool) → Plan
+made x t = record { answer = x; rows = t }
+
+pub plan-one : law.PlanOne
+plan-one n required forbidden p q h k =
+    let e : p .answer ≡ q .answer = outcome-one (p .answer) (q .answer) (h .says ∙ sym (k .says)) in
+    let f : p .rows ≡ q .rows = h .table ∙ sym (k .table) in
+    let g : made (p .answer) (p .rows) ≡ made (q .answer) (q .rows) = cc in
+    g
