@@ -9,7 +9,8 @@ use Rattle.planning.specs.Laws as law
 use Rattle.planning.proofs.SetLaws as set
 use Rattle.planning.proofs.ListedLaws as lists
 use Rattle.planning.proofs.HoldingLaws as holding
-use Rattle.planning.proofs.AnswerLaws as answer
+use Rattle.planning.proofs.ClashLaws as clash
+use Rattle.planning.proofs.AcceptedLaws as accepted
 
 pub stranger-means : law.StrangerMeans
 stranger-means = set.stranger-means
@@ -21,10 +22,10 @@ pub listed-means : law.ListedMeans
 listed-means = lists.listed
 
 pub clash-families : law.ClashFamilies
-clash-families = answer.clash-families
+clash-families = clash.clash-families
 
 pub clash-places : law.ClashPlaces
-clash-places = answer.clash-places
+clash-places = clash.clash-places
 
 pub groups-are : law.GroupsAre
 groups-are = holding.groups-are
@@ -38,17 +39,20 @@ gathers = holding.gathers
 pub lacks : law.Lacks
 lacks = holding.lacks
 
+pub accepted-listed : law.AcceptedListed
+accepted-listed = accepted.accepted-listed
+
 pub some-piece : law.SomePiece
-some-piece = answer.some-pieces
+some-piece = accepted.some-pieces
 
 pub forbidden-free : law.ForbiddenFree
-forbidden-free = answer.forbidden-free
+forbidden-free = accepted.forbidden-free
 
 pub rows-mean : law.RowsMean
-rows-mean = answer.rows-mean
+rows-mean = accepted.rows-mean
 
 pub refused-rows : law.RefusedRows
-refused-rows = answer.refused-rows
+refused-rows = accepted.refused-rows
 
 -- antt compares two records by their fields: what is shown of `made` at a plan's fields is shown of the plan
 abbrev made : Answer → List (List Bool) → Plan

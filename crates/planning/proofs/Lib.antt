@@ -9,6 +9,7 @@ pub mod RowLaws
 pub mod ListedLaws
 pub mod PlannedLaws
 pub mod FamilyLaws
-pub mod AnswerLaws
+pub mod ClashLaws
+pub mod AcceptedLaws
 pub mod Laws
 pub mod Cases

@@ -38,14 +38,15 @@ module _ {maximals : List ℕ} {p : Plan} where
       record { says = a ∙ ap done c ∙ sym e; table = t ∙ ap (λ (o : Outcome ℕ). rowsFor o maximals) (sym e) }
 
 -- ---- the answer, check by check
+-- the lines after refusals 1 to 5
+abbrev pub afterLists : ℕ → List ℕ → List ℕ → List Line
+afterLists n required forbidden = clash required forbidden ∷ wide (groups n required) ∷ []
+
+-- the answer where no line is given
+abbrev pub end : ℕ → List ℕ → Outcome ℕ
+end n required = done (pieceCount n required)
+
 module _ (n : ℕ) (required forbidden : List ℕ) where
-  -- the lines after refusals 1 to 5, and what they say
-  abbrev left : List Line
-  left = clash required forbidden ∷ wide (groups n required) ∷ []
-
-  abbrev end : Outcome ℕ
-  end = done (pieceCount n required)
-
   -- refusals 1 to 5 and CLASH have not been given
   pub record Clear : Type 0 where
     pub listed-so : Listed n required forbidden
@@ -54,20 +55,20 @@ module _ (n : ℕ) (required forbidden : List ℕ) where
   pub lists-refuse : {x : Answer} {r : Refusal} → outcome x ≡ firstFail (listLines n required forbidden) (done 0) → x ≡ Refused r
       → outcome (Refused r) ≡ planned n required forbidden
   unfolding planned planLines
-  lists-refuse says q = stops (listLines n required forbidden) says left end q
+  lists-refuse says q = stops (listLines n required forbidden) says (afterLists n required forbidden) (end n required) q
 
   pub clash-refuse : {x y : Answer} {u : ℕ} {r : Refusal} → outcome x ≡ firstFail (listLines n required forbidden) (done 0) → x ≡ Done u
       → outcome y ≡ firstFail (clash required forbidden ∷ []) (done 0) → y ≡ Refused r → outcome (Refused r) ≡ planned n required forbidden
   unfolding planned planLines
   clash-refuse says q says′ q′ =
-      stops (clash required forbidden ∷ []) says′ (wide (groups n required) ∷ []) end q′ ∙ sym (goes-on (listLines n required forbidden) says left end q)
+      stops (clash required forbidden ∷ []) says′ (wide (groups n required) ∷ []) (end n required) q′ ∙ sym (goes-on (listLines n required forbidden) says (afterLists n required forbidden) (end n required) q)
 
   pub clear : {x y : Answer} {u v : ℕ} → outcome x ≡ firstFail (listLines n required forbidden) (done 0) → x ≡ Done u
       → outcome y ≡ firstFail (clash required forbidden ∷ []) (done 0) → y ≡ Done v → Clear
   unfolding planned planLines filled
   clear {u = u} says q says′ q′ = record {
     listed-so = listed n required forbidden (done-passed (listLines n required forbidden) (done 0) u (sym says ∙ ap outcome q) .0);
-    then = goes-on (listLines n required forbidden) says left end q ∙ goes-on (clash required forbidden ∷ []) says′ (wide (groups n required) ∷ []) end q′;
+    then = goes-on (listLines n required forbidden) says (afterLists n required forbidden) (end n required) q ∙ goes-on (clash required forbidden ∷ []) says′ (wide (groups n required) ∷ []) (end n required) q′;
   }
 
   -- ---- the plan

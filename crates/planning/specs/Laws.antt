@@ -88,6 +88,10 @@ Lacks = (n : ℕ) (required : List ℕ) → n ≤ 8 → (g : ℕ) → g < 2 ^ n 
     × ((i : ℕ) → 1 ≤ i → i ≤ n → member i g ≡ true → holds n required i j ≡ false)
 
 -- ---- an accepted policy
+-- It passes refusals 1 to 5.
+abbrev pub AcceptedListed : Type 0
+AcceptedListed = (n : ℕ) (required forbidden : List ℕ) (k : ℕ) → planned n required forbidden ≡ done k → Listed n required forbidden
+
 -- It has k pieces, 1 to 70.
 abbrev pub SomePiece : Type 0
 SomePiece = (n : ℕ) (required forbidden : List ℕ) (k : ℕ) → planned n required forbidden ≡ done k

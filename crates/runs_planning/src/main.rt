@@ -162,13 +162,16 @@ fn long_lists() {
     show(b"257 sets in both lists, with strangers", 1, &two, &two);
 }
 
-fn main() {
+fn five_of_eight() {
     case(
         b"any five of eight",
         8,
         b"12345 12346 12347 12348 12356 12357 12358 12367 12368 12378 12456 12457 12458 12467 12468 12478 12567 12568 12578 12678 13456 13457 13458 13467 13468 13478 13567 13568 13578 13678 14567 14568 14578 14678 15678 23456 23457 23458 23467 23468 23478 23567 23568 23578 23678 24567 24568 24578 24678 25678 34567 34568 34578 34678 35678 45678",
         b"",
     );
+}
+
+fn source_003() {
     case(
         b"source 003, example 1",
         6,
@@ -188,14 +191,22 @@ fn main() {
         b"",
     );
     case(b"source 003, example 7", 6, b"12 13 24 34 25 45 56", b"");
+}
+
+fn source_001() {
     case(b"source 001, five people", 5, b"123 125 134 245 345", b"");
-    long_lists();
+}
+
+fn strangers() {
     case(b"nobody at all", 0, b"12", b"");
     case(b"nine people", 9, b"9 -", b"9");
     case(b"a stranger at required place 2", 3, b"12 34 5", b"4");
     case(b"a stranger at forbidden place 3", 3, b"12 -", b"1 2 34");
     case(b"person 9 among eight", 8, b"9", b"");
     case(b"a stranger forbidden, nothing required", 2, b"", b"3");
+}
+
+fn clashes() {
     case(b"nothing required", 2, b"", b"12");
     case(b"an empty required set at place 2", 3, b"12 - -", b"123");
     case(
@@ -206,4 +217,13 @@ fn main() {
     );
     case(b"a required set that is forbidden", 2, b"12", b"12");
     case(b"a forbidden set inside a required one", 2, b"12", b"1");
+}
+
+fn main() {
+    five_of_eight();
+    source_003();
+    source_001();
+    long_lists();
+    strangers();
+    clashes();
 }
