@@ -1,0 +1,64 @@
+-- The pieces that a person holds, their values, and what a card depends on.
+-- Assumes nothing.
+use Prim.Native.Nat.{ℕ, _-_, _≤_}
+use mathlib.Core.Path.{_≡_, refl, sym, ap, ap₂, _∙_}
+use mathlib.Core.Bool.{true}
+use mathlib.Core.List.{List, [], _∷_, map, List·Memᴰ·head, List·Memᴰ·tail}
+use native.Mathlib.Omega.{arith}
+use lib.ListN.{length}
+use Rattle.answer.proofs.ThoseLaws.{in-those, those-in}
+use Rattle.field.proofs.ValuesLaws as field
+use Rattle.planning.specs.Groups as planning
+use Rattle.planning.specs.Groups.{_∈_, holds}
+use Rattle.block.specs.Written.{blockBytes}
+use Rattle.dealing.specs.Deal.{Deal, pieceCount, held, values, header, blockOf, flat, cardBlocks, card}
+
+-- ---- which pieces a person holds
+module _ (d : Deal) (holder j : ℕ) where
+  pub held-in : j ∈ held d holder → (1 ≤ j) × (j ≤ pieceCount d) × (holds (d .policy .people) (d .policy .required) holder j ≡ true)
+  unfolding held planning.held pieceCount
+  held-in m =
+      let r = in-those (holds (d .policy .people) (d .policy .required) holder) 1 (pieceCount d) j m in
+      (r .0, omega arith, r .2)
+
+  pub in-held : 1 ≤ j → j ≤ pieceCount d → holds (d .policy .people) (d .policy .required) holder j ≡ true → j ∈ held d holder
+  unfolding held planning.held pieceCount
+  in-held l h t = those-in (holds (d .policy .people) (d .policy .required) holder) 1 (pieceCount d) j l (omega arith) t
+
+-- ---- there is a value for each word of the secret
+pub values-length : (d : Deal) (j : ℕ) → length (values d j) ≡ length (d .secret)
+unfolding values
+values-length d j = field.values-length (pieceCount d - 1) (d .secret) (d .random) j
+
+-- ---- what a card depends on
+map-same : (f g : ℕ → List ℕ) (l : List ℕ) → ((j : ℕ) → j ∈ l → f j ≡ g j) → map f l ≡ map g l
+map-same f g [] e = refl
+map-same f g (j ∷ l) e =
+    ap₂ (λ (x : List ℕ) (xs : List (List ℕ)). x ∷ xs) (e j (List·Memᴰ·head refl)) (map-same f g l (λ i m. e i (List·Memᴰ·tail m)))
+
+module _ (d d′ : Deal) (holder : ℕ) (people : d .policy .people ≡ d′ .policy .people) (required : d .policy .required ≡ d′ .policy .required)
+    (number : d .number ≡ d′ .number) where
+  count-same : pieceCount d ≡ pieceCount d′
+  unfolding pieceCount
+  count-same = ap₂ planning.pieceCount people required
+
+  held-same : held d holder ≡ held d′ holder
+  unfolding held
+  held-same = ap₂ (λ (n : ℕ) (r : List ℕ). planning.held n r holder) people required
+
+  -- equal values are equally many: so are the words of the secrets
+  block-same : (j : ℕ) → values d j ≡ values d′ j → blockOf d holder j ≡ blockOf d′ holder j
+  unfolding blockOf header
+  block-same j e =
+      let width : length (d .secret) ≡ length (d′ .secret) = sym (values-length d j) ∙ ap length e ∙ values-length d′ j in
+      λ t.
+      blockBytes
+      (record { mark = 1987; deal = number t; holder = holder; people = people t; pieces = count-same t; width = width t; piece = j })
+      (e t)
+
+  pub card-depends : ((j : ℕ) → j ∈ held d holder → values d j ≡ values d′ j) → card d holder ≡ card d′ holder
+  unfolding card cardBlocks
+  card-depends e =
+      ap flat
+      (map-same (blockOf d holder) (blockOf d′ holder) (held d holder) (λ j m. block-same j (e j m))
+      ∙ ap (map (blockOf d′ holder)) held-same)

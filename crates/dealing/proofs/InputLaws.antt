@@ -1,0 +1,73 @@
+-- Refusals 8 to 11: what inputs that pass them have, and that such inputs pass them.
+-- Assumes nothing.
+use Prim.Native.Nat.{ℕ, _+_, _-_, _≤_}
+use mathlib.Core.Path.{_≡_}
+use mathlib.Core.Bool.{false}
+use mathlib.Core.List.{List}
+use native.Mathlib.Omega.{arith}
+use lib.Dec.{eqb, ltb}
+use lib.ListN.{length, getD}
+use borrow.Author.Tests.{ltb-false, le-ltb, eqb-true, eqb-false, eq-eqb, ne-eqb, not-false}
+use Rattle.answer.specs.Laws.{Passed}
+use Rattle.answer.specs.Places.{firstPlace, found, at}
+use Rattle.answer.proofs.CheckLaws.{passed, passed-none, passed-one}
+use Rattle.answer.proofs.FirstLaws.{place-lacks, none-found, first-all, found-none}
+use Rattle.field.specs.Poly.{Below}
+use Rattle.field.proofs.Sums.{below-within}
+use Rattle.planning.proofs.Truth.{neither}
+use Rattle.dealing.specs.Dealt.{tooLarge, outside, badNumber, badHolder, badWidth, badSecret, badCount, badRandom, inputLines}
+use Rattle.dealing.specs.Rows.{Inputs, Ready}
+
+-- ---- a number in its range
+pub in-range : (high v : ℕ) → outside high v ≡ false → (1 ≤ v) × (v ≤ high)
+in-range high v e =
+    let h = neither (eqb v 0) (ltb high v) e in
+    let n : v ≡ 0 → ⊥ = eqb-false v 0 (h .0) in
+    (omega arith, ltb-false high v (h .1))
+
+range-in : (high v : ℕ) → 1 ≤ v → v ≤ high → outside high v ≡ false
+range-in high v l u = rw (ne-eqb v 0 (λ z. omega arith), le-ltb high v u)
+
+-- ---- words of at most 32748
+small-words : (l : List ℕ) → found (firstPlace tooLarge l) ≡ false → Below l
+small-words l e =
+    below-within l
+    (λ i h. omega (arith, ltb-false 32748 (getD l i 0) (place-lacks tooLarge l (none-found (firstPlace tooLarge l) e) i h)))
+
+words-small : (l : List ℕ) → Below l → found (firstPlace tooLarge l) ≡ false
+unfolding firstPlace
+words-small l b =
+    found-none (first-all (λ i. tooLarge (at l i)) 1 (length l + 1) (λ i low high. le-ltb 32748 (at l i) (omega (arith, b .each (i - 1)))))
+
+-- ---- 8 to 11
+pub lines-ready : (t : Inputs) → t .people ≤ 8 → 1 ≤ t .pieces → t .pieces ≤ 70
+    → Passed (inputLines (t .people) (t .pieces) (t .number) (t .holder) (t .secret) (t .random)) → Ready t
+unfolding inputLines badNumber badHolder badWidth badSecret badCount badRandom
+lines-ready t few least most p =
+    let p1 = passed p in
+    let p2 = passed (p1 .1) in
+    let p3 = passed (p2 .1) in
+    let p4 = passed (p3 .1) in
+    let p5 = passed (p4 .1) in
+    let p6 = passed (p5 .1) in
+    record {
+      few = few;
+      least = least;
+      most = most;
+      number-in = in-range 32748 (t .number) (p1 .0);
+      holder-in = in-range (t .people) (t .holder) (p2 .0);
+      width-in = in-range 16 (length (t .secret)) (p3 .0);
+      secret-in = small-words (t .secret) (p4 .0);
+      random-in = record { count = eqb-true _ _ (not-false _ (p5 .0)); below = small-words (t .random) (p6 .0) };
+    }
+
+pub ready-lines : (t : Inputs) → Ready t → Passed (inputLines (t .people) (t .pieces) (t .number) (t .holder) (t .secret) (t .random))
+unfolding inputLines badNumber badHolder badWidth badSecret badCount badRandom
+ready-lines t r =
+    passed-one (range-in 32748 (t .number) (r .number-in .0) (r .number-in .1))
+    (passed-one (range-in (t .people) (t .holder) (r .holder-in .0) (r .holder-in .1))
+    (passed-one (range-in 16 (length (t .secret)) (r .width-in .0) (r .width-in .1))
+    (passed-one (words-small (t .secret) (r .secret-in))
+    (passed-one (rw (eq-eqb _ _ (r .random-in .count)))
+    (passed-one (words-small (t .random) (r .random-in .below))
+    passed-none)))))

@@ -1,0 +1,27 @@
+-- This room's laws, proved: each by its name in specs/Laws.antt. Assumes nothing.
+use lib.ListN.{length}
+use Rattle.answer.proofs.LentLaws as lent
+use Rattle.dealing.specs.Deal.{card}
+use Rattle.dealing.specs.Dealt.{dealing, dealtInto}
+use Rattle.dealing.specs.Laws as law
+use Rattle.dealing.proofs.HeldLaws as held
+use Rattle.dealing.proofs.MadeLaws as made
+
+pub card-depends : law.CardDepends
+card-depends = held.card-depends
+
+pub blocks-open : law.BlocksOpen
+blocks-open d m holder j l u h = made.blocks-open d (made.made-in-range d m) holder l u j h
+
+pub card-length : law.CardLength
+card-length d m holder l u = made.card-length d (made.made-in-range d m) holder l u
+
+pub deals-all : law.DealsAll
+deals-all d m holder l u = made.deals-all d (made.made-in-range d m) holder l u
+
+pub refusal-keeps : law.RefusalKeeps
+unfolding dealtInto
+refusal-keeps d holder out m a b e = lent.refusal-keeps (dealing d holder (length out)) m a b (card d holder) out e
+
+pub result-writes : law.ResultWrites
+result-writes = made.result-writes

@@ -1,0 +1,8 @@
+pub mod HeldLaws
+pub mod InputLaws
+pub mod RoomLaws
+pub mod CardLaws
+pub mod DealLaws
+pub mod MadeLaws
+pub mod Laws
+pub mod Cases

@@ -1,0 +1,176 @@
+-- A deal that was made: what it has, that it deals every card, and what its blocks and cards are.
+-- Assumes nothing.
+use Prim.Native.Nat.{ℕ, _*_, _≤_}
+use mathlib.Core.Path.{_≡_, refl, sym, ap, _∙_}
+use mathlib.Core.List.{List, [], _∷_, _++_}
+use native.Mathlib.Omega.{arith}
+use lib.ListN.{length, drop}
+use borrow.Author.Tests.{ltb-false}
+use Rattle.answer.specs.Outcome.{done}
+use Rattle.answer.specs.Checks.{firstFail}
+use Rattle.answer.specs.Laws.{Passed}
+use Rattle.answer.specs.Lent.{over}
+use Rattle.answer.proofs.CheckLaws.{append-lines, done-passed, passed-done, passed, passed-append}
+use Rattle.answer.proofs.LentLaws as lent
+use Rattle.field.specs.Poly.{Below}
+use Rattle.field.specs.Pieces.{Random}
+use Rattle.planning.specs.Groups as planning
+use Rattle.planning.specs.Groups.{_∈_}
+use Rattle.planning.specs.Planned.{planLines, planned}
+use Rattle.block.specs.Words.{bytesOf}
+use Rattle.block.specs.Open.{opening, valueBytes, wordsOf, TrueBlock}
+use Rattle.block.specs.Written.{Buildable}
+use Rattle.block.proofs.Laws.{opens-written}
+use Rattle.dealing.specs.Deal.{Deal, again, pieceCount, held, values, header, blockOf, cardBlocks, card}
+use Rattle.dealing.specs.Dealt.{noRoom, blockCount, dealLines, dealing, dealtInto, Made}
+use Rattle.dealing.specs.Rows.{inputsFor, Ready, blockFor}
+use Rattle.dealing.proofs.HeldLaws.{held-in}
+use Rattle.dealing.proofs.InputLaws.{lines-ready, ready-lines}
+use Rattle.dealing.proofs.RoomLaws.{room-given}
+use Rattle.dealing.proofs.CardLaws.{ready-builds, block-size, flat-size}
+use Rattle.dealing.proofs.DealLaws.{linesFor, past-plan, plan-few}
+
+-- ---- what every card of such a deal rests on: planning accepts its policy, and the rest is in its range
+pub record InRange (d : Deal) : Type 0 where
+  pub plan-passes : Passed (planLines (d .policy .people) (d .policy .required) (d .policy .forbidden))
+  pub few : d .policy .people ≤ 8
+  pub least : 1 ≤ pieceCount d
+  pub most : pieceCount d ≤ 70
+  pub number-in : (1 ≤ d .number) × (d .number ≤ 32748)
+  pub width-in : (1 ≤ length (d .secret)) × (length (d .secret) ≤ 16)
+  pub secret-in : Below (d .secret)
+  pub random-in : Random (length (d .secret)) (pieceCount d) (d .random)
+
+-- with a holder it is what a card is written from
+pub ready : (d : Deal) → InRange d → (holder : ℕ) → 1 ≤ holder → holder ≤ d .policy .people → Ready (inputsFor d holder)
+ready d f holder l u =
+    record {
+      few = f .few;
+      least = f .least;
+      most = f .most;
+      number-in = f .number-in;
+      holder-in = (l, u);
+      width-in = f .width-in;
+      secret-in = f .secret-in;
+      random-in = f .random-in;
+    }
+
+plan-accepts : (d : Deal) → Passed (planLines (d .policy .people) (d .policy .required) (d .policy .forbidden))
+    → planned (d .policy .people) (d .policy .required) (d .policy .forbidden) ≡ done (pieceCount d)
+unfolding planned pieceCount
+plan-accepts d p = passed-done (planLines (d .policy .people) (d .policy .required) (d .policy .forbidden)) (done (pieceCount d)) p
+
+-- ---- a card was dealt, so everything passed
+pub made-lines : (d : Deal) (m : Made d)
+    → Passed (planLines (d .policy .people) (d .policy .required) (d .policy .forbidden))
+    × Passed (linesFor d (m .holder))
+    × Passed (noRoom (blockCount d (m .holder)) (m .room) ∷ [])
+unfolding dealing dealLines
+made-lines d m =
+    let all = done-passed (dealLines d (m .holder) (m .room)) (done (blockCount d (m .holder))) (m .blocks) (m .answer) .0 in
+    let p = passed-append (planLines (d .policy .people) (d .policy .required) (d .policy .forbidden)) all in
+    let q = passed-append (linesFor d (m .holder)) (p .1) in
+    (p .0, q .0, q .1)
+
+pub made-ready : (d : Deal) (m : Made d) → Ready (inputsFor d (m .holder))
+made-ready d m =
+    let p = made-lines d m in
+    let f = plan-few d (plan-accepts d (p .0)) in
+    lines-ready (inputsFor d (m .holder)) (f .0) (f .1) (f .2) (p .1)
+
+pub made-in-range : (d : Deal) → Made d → InRange d
+made-in-range d m =
+    let r = made-ready d m in
+    record {
+      plan-passes = made-lines d m .0;
+      few = r .few;
+      least = r .least;
+      most = r .most;
+      number-in = r .number-in;
+      width-in = r .width-in;
+      secret-in = r .secret-in;
+      random-in = r .random-in;
+    }
+
+-- the holder whose card it was
+pub made-holder : (d : Deal) (m : Made d) → (1 ≤ m .holder) × (m .holder ≤ d .policy .people)
+made-holder d m = made-ready d m .holder-in
+
+-- the same deal with another secret in range and other randomness in range
+pub again-in-range : (d : Deal) → InRange d → (secret random : List ℕ) → length secret ≡ length (d .secret) → Below secret
+    → Random (length secret) (pieceCount d) random → InRange (again d secret random)
+unfolding pieceCount
+again-in-range d f secret random e b r =
+    record {
+      plan-passes = f .plan-passes;
+      few = f .few;
+      least = f .least;
+      most = f .most;
+      number-in = f .number-in;
+      width-in = rw e (f .width-in);
+      secret-in = b;
+      random-in = r;
+    }
+
+module _ (d : Deal) (f : InRange d) (holder : ℕ) (least : 1 ≤ holder) (most : holder ≤ d .policy .people) where
+  -- ---- only the room is left to check
+  pub only-room : (room : ℕ) → dealing d holder room ≡ firstFail (noRoom (blockCount d holder) room ∷ []) (done (blockCount d holder))
+  only-room room =
+      let last = noRoom (blockCount d holder) room ∷ [] in
+      past-plan d (f .plan-passes) holder room
+      ∙ append-lines (linesFor d holder) last (done (blockCount d holder))
+      ∙ passed-done (linesFor d holder) (firstFail last (done (blockCount d holder))) (ready-lines (inputsFor d holder) (ready d f holder least most))
+
+  pub deals-all : (room : ℕ) → 512 * blockCount d holder ≤ room → dealing d holder room ≡ done (blockCount d holder)
+  deals-all room h = only-room room ∙ sym (room-given (blockCount d holder) (blockCount d holder) room refl h)
+
+  -- ---- its card: blocks of 512 bytes
+  pub block-length : (j : ℕ) → length (blockOf d holder j) ≡ 512
+  unfolding blockOf header values blockFor
+  block-length j = block-size (ready d f holder least most) j
+
+  pub card-length : length (card d holder) ≡ 512 * blockCount d holder
+  unfolding card cardBlocks blockCount
+  card-length = flat-size (blockOf d holder) block-length (held d holder)
+
+  -- ---- each of them is true, and opens
+  pub buildable : (j : ℕ) → j ∈ held d holder → Buildable (header d holder j) (values d j)
+  unfolding header values
+  buildable j m = let h = held-in d holder j m in ready-builds (ready d f holder least most) j (values d j) (h .0) (h .1) refl
+
+  pub blocks-open : (j : ℕ) → j ∈ held d holder → (rest : List ℕ)
+      → TrueBlock (blockOf d holder j ++ rest)
+      × (opening (blockOf d holder j ++ rest) ≡ done (wordsOf (header d holder j)))
+      × (valueBytes (blockOf d holder j ++ rest) ≡ bytesOf (values d j))
+  unfolding blockOf
+  blocks-open j m rest = opens-written (header d holder j) (values d j) rest (buildable j m)
+
+-- ---- what is left in the lent output
+module _ (d : Deal) (holder : ℕ) (out : List ℕ) (blocks : ℕ) (e : dealing d holder (length out) ≡ done blocks) where
+  made : Made d
+  made = record { holder = holder; room = length out; blocks = blocks; answer = e }
+
+  dealt-count : blocks ≡ blockCount d holder
+  unfolding dealing
+  dealt-count =
+      let end : done (blockCount d holder) ≡ done blocks = done-passed (dealLines d holder (length out)) (done (blockCount d holder)) blocks e .1 in
+      cc
+
+  room-enough : 512 * blockCount d holder ≤ length out
+  unfolding noRoom made
+  room-enough = ltb-false (length out) (512 * blockCount d holder) (passed (made-lines d made .2) .0)
+
+  pub result-writes : (blocks ≡ blockCount d holder)
+      × (length (card d holder) ≡ 512 * blocks)
+      × (512 * blocks ≤ length out)
+      × (dealtInto d holder out ≡ card d holder ++ drop (512 * blocks) out)
+  unfolding dealtInto over made
+  result-writes =
+      let h = made-holder d made in
+      let n : length (card d holder) ≡ 512 * blocks
+      = card-length d (made-in-range d made) holder (h .0) (h .1) ∙ ap (λ (x : ℕ). 512 * x) (sym dealt-count) in (
+        dealt-count,
+        n,
+        omega (arith, dealt-count, room-enough),
+        lent.result-writes (dealing d holder (length out)) blocks (card d holder) out e ∙ ap (λ (x : ℕ). card d holder ++ drop x out) n,
+      )

@@ -1,0 +1,142 @@
+-- `dealing::card::write_card` meets its contract: the blocks of the first rows are laid over the front of what was lent.
+-- Assumes nothing.
+use Prim.Native.Nat.{_+_, _-_, _*_, _≤_}
+use mathlib.Core.Path.{sym, _∙_}
+use mathlib.Core.Logic.{⊎-elim}
+use native.Mathlib.Omega.{arith}
+use lib.ListN.{length}
+use borrow.Author.Needs.{needs}
+use Rattle.answer.proofs.LentLaws.{refusal-keeps}
+use Rattle.dealing.specs.Rows.{inputsOf, heldIn}
+use Rattle.dealing.proofs.RoomLaws.{room-refused, room-given}
+use Rattle.dealing.proofs.CardLaws.{held-few, Laid, laid-start, laid-skip, laid-take, laid-end, room-left}
+use Rattle.dealing.proofs.card.write_card.Statement.{statement}
+use Rattle.dealing.proofs.card.write_card.Tie as tie
+
+abbrev Inv-loop : tie.InvT-loop
+Inv-loop rows people k deal-number holder secret random out₀ blocks column at₀ row₀ out at row =
+    Laid rows (inputsOf people k deal-number holder secret random) out₀ out at row
+
+abbrev μ-loop : tie.MeasureT-loop
+μ-loop rows people k deal-number holder secret random out₀ blocks column at₀ row₀ out at row = k - row
+
+-- what was lent has room for every block
+enough : (l : tie.At-loop Inv-loop μ-loop)
+    → let a = l .before .before .before .before .before .before .args in 512 * length (heldIn (a .rows .now) (a .holder) (a .k)) ≤ length (a .out .now)
+enough l = omega (arith, l .before .if1 .left, l .before .before .held-count .ensures)
+
+-- and so for this one
+room : (c : tie.Then2 Inv-loop μ-loop) → c .before .before .before .loop .at + 512 ≤ length (c .before .before .before .loop .out)
+room c =
+    let l = c .before .before .before in
+    let s = l .before .before .before .before .before .before in
+    room-left (s .args .rows .now) (s .pre) (s .args .out .now) (l .loop .out) (l .loop .at) (l .loop .row)
+    (c .before .before .loop-test .taken) (c .if2 .taken) (enough l) (l .loop .inv)
+
+held-count-requires : tie.Need-held-count-requires Inv-loop μ-loop
+held-count-requires c κs =
+    let r = c .before .before .before .pre in
+    (r .most, r .holder-in .0, omega (arith, r .holder-in .1, r .few))
+
+mul-if1 : tie.Need-mul-if1 Inv-loop μ-loop
+mul-if1 c =
+    let s = c .before .before .before .before in
+    omega (arith, c .held-count .ensures, held-few (s .args .rows .now) (s .args .holder) (s .args .k), s .pre .most)
+
+refuse-requires : tie.Need-refuse-requires Inv-loop μ-loop
+refuse-requires c κs = search needs
+
+returns : tie.Need-returns Inv-loop μ-loop
+returns c =
+    let h = c .before .before .held-count in
+    let s = c .before .before .before .before .before .before in
+    let n = length (heldIn (s .args .rows .now) (s .args .holder) (s .args .k)) in (
+      c .refuse .ensures ∙ room-refused (h .result) n (length (s .args .out .now)) (h .ensures) (c .before .if1 .taken),
+      sym (refusal-keeps _ 12 (h .result) 0 _ (s .args .out .now) (c .refuse .ensures)),
+    )
+
+sub-column : tie.Need-sub-column Inv-loop μ-loop
+sub-column c = omega (arith, c .before .before .before .before .before .pre .holder-in .0)
+
+loop-holds : tie.Need-loop-holds Inv-loop μ-loop
+loop-holds c = laid-start _ (c .before .before .before .before .before .pre) _
+
+mul-if2 : tie.Need-mul-if2 Inv-loop μ-loop
+mul-if2 c = omega arith
+
+index-1-if2 : tie.Need-index-1-if2 Inv-loop μ-loop
+index-1-if2 c = omega (arith, c .before .before .before .before .before .before .before .pre .most)
+
+index-2-if2 : tie.Need-index-2-if2 Inv-loop μ-loop
+index-2-if2 c =
+    let r = c .before .before .before .before .before .before .before .pre in
+    omega (arith, r .holder-in .1, r .few)
+
+add-write-piece : tie.Need-add-write-piece Inv-loop μ-loop
+add-write-piece c = omega arith
+
+write-piece-requires : tie.Need-write-piece-requires Inv-loop μ-loop
+write-piece-requires c κs =
+    let l = c .before .before .before .before in
+    (room (c .before), (l .before .before .before .before .before .before .pre, (omega arith, omega (arith, c .before .before .before .loop-test .taken))))
+
+add-at : tie.Need-add-at Inv-loop μ-loop
+add-at c = omega (arith, room (c .before .before .before .before))
+
+add-row : tie.Need-add-row Inv-loop μ-loop
+add-row c = omega arith
+
+loop-less : tie.Need-loop-less Inv-loop μ-loop
+loop-less c = omega arith
+
+loop-again : tie.Need-loop-again Inv-loop μ-loop
+loop-again c =
+    let l = c .before .before .before in
+    let v = l .loop in
+    let s = l .before .before .before .before .before .before in
+    let h = c .before .before .loop-test .taken in
+    ⊎-elim
+    (λ w.
+    rw (w .6)
+    (laid-take (s .args .rows .now) (s .pre) (s .args .out .now) (v .out) (c .if2 .out) (v .at) (v .row) h (w .0 .taken) (enough l)
+    (w .5 ∙ w .2 .ensures) (v .inv)))
+    (λ w. rw (w .1, w .2) (laid-skip (s .args .rows .now) (s .pre) (s .args .out .now) (v .out) (v .at) (v .row) h (w .0 .left) (v .inv)))
+    (c .if2 .came)
+
+same-length : tie.Need-same-length Inv-loop μ-loop
+same-length c = c .before .loop .inv .same
+
+returns-2 : tie.Need-returns-2 Inv-loop μ-loop
+returns-2 c =
+    let l = c .before in
+    let v = l .loop in
+    let h = l .before .before .held-count in
+    let s = l .before .before .before .before .before .before in
+    let n = length (heldIn (s .args .rows .now) (s .args .holder) (s .args .k)) in (
+      room-given (h .result) n (length (s .args .out .now)) (h .ensures) (l .before .if1 .left),
+      laid-end (s .args .rows .now) (s .pre) (s .args .out .now) (v .out) (v .at) (v .row) (c .loop-test .left) (v .inv),
+    )
+
+pub write-card-spec : {M : Type 1} → statement M
+write-card-spec =
+    tie.close
+    (tie.spec
+    Inv-loop
+    μ-loop
+    held-count-requires
+    mul-if1
+    refuse-requires
+    returns
+    sub-column
+    loop-holds
+    mul-if2
+    index-1-if2
+    index-2-if2
+    add-write-piece
+    write-piece-requires
+    add-at
+    add-row
+    loop-less
+    loop-again
+    same-length
+    returns-2)

@@ -1,0 +1,81 @@
+-- `dealing::card::write_piece` meets its contract: the values are those of piece j, and the block that is built of them is written.
+-- Assumes nothing.
+use Prim.Native.Nat.{ℕ}
+use mathlib.Core.Path.{sym, ap, _∙_}
+use mathlib.Core.List.{List, _++_}
+use native.Mathlib.Omega.{arith}
+use lib.ListN.{take, drop}
+use lib.Seq.{length-take-le}
+use borrow.Author.Needs.{needs}
+use Rattle.answer.specs.Lent.{over}
+use Rattle.dealing.proofs.CardLaws.{ready-builds, block-is}
+use Rattle.dealing.proofs.card.write_piece.Statement.{statement}
+use Rattle.dealing.proofs.card.write_piece.Tie as tie
+
+sub-values-of : tie.Need-sub-values-of
+sub-values-of c = search needs
+
+cast-values-of : tie.Need-cast-values-of
+cast-values-of c = search needs
+
+values-of-requires : tie.Need-values-of-requires
+values-of-requires c κs = search needs
+
+cast-t15 : tie.Need-cast-t15
+cast-t15 c = search needs
+
+cast-t16 : tie.Need-cast-t16
+cast-t16 c = search needs
+
+cast-t17 : tie.Need-cast-t17
+cast-t17 c = search needs
+
+cast-t18 : tie.Need-cast-t18
+cast-t18 c = search needs
+
+cast-t19 : tie.Need-cast-t19
+cast-t19 c = search needs
+
+cast-t20 : tie.Need-cast-t20
+cast-t20 c = search needs
+
+array-share-prefix-made : tie.Need-array-share-prefix-made
+array-share-prefix-made c = search needs
+
+slice-aggregate-write-at : tie.Need-slice-aggregate-write-at
+slice-aggregate-write-at c = sym (length-take-le _ (c .before .before .values-of .result) (omega arith))
+
+write-at-requires : tie.Need-write-at-requires
+write-at-requires c κs =
+    let s = c .before .before .before .before .before .before in
+    (s .pre .0, ready-builds (s .pre .1 .0) (s .args .j) _ (s .pre .1 .1 .0) (s .pre .1 .1 .1) (c .before .before .values-of .ensures))
+
+same-length : tie.Need-same-length
+same-length c = search needs
+
+returns : tie.Need-returns
+returns c =
+    let v = c .before .before .before .before .before in
+    let s = v .before .before .before .before in
+    c .before .before .write-at .ensures
+    ∙ ap (λ (b : List ℕ). take (s .args .at) (s .args .out .now) ++ over b (drop (s .args .at) (s .args .out .now)))
+    (block-is (s .pre .1 .0) (s .args .j) _ (v .values-of .ensures))
+
+pub write-piece-spec : {M : Type 1} → statement M
+write-piece-spec =
+    tie.close
+    (tie.spec
+    sub-values-of
+    cast-values-of
+    values-of-requires
+    cast-t15
+    cast-t16
+    cast-t17
+    cast-t18
+    cast-t19
+    cast-t20
+    array-share-prefix-made
+    slice-aggregate-write-at
+    write-at-requires
+    same-length
+    returns)

@@ -1,0 +1,181 @@
+-- `dealing::checks::check_inputs` meets its contract: at each return the lines before have passed.
+-- Assumes nothing.
+use mathlib.Core.Path.{sym, _∙_}
+use mathlib.Core.List.{List, [], _∷_}
+use Prim.Native.Nat.{_-_, _*_, _≤_}
+use native.Mathlib.Nat.{mul-le-mul}
+use native.Mathlib.Omega.{arith}
+use lib.ListN.{length}
+use borrow.Author.Needs.{needs}
+use borrow.Author.Tests.{eq-eqb, ne-eqb}
+use Rattle.answer.specs.Checks.{Line}
+use Rattle.planning.proofs.LineLaws.{said, Says, whole, passes, speaks, silent}
+use Rattle.planning.proofs.SomeLaws.{found-at, found-none}
+use Rattle.dealing.specs.Dealt.{badNumber, badHolder, badWidth, badSecret, badCount, badRandom, inputLines}
+use Rattle.dealing.specs.Rows.{Inputs, inputsOf}
+use Rattle.dealing.proofs.InputLaws.{in-range}
+use Rattle.dealing.proofs.checks.check_inputs.Statement.{statement}
+use Rattle.dealing.proofs.checks.check_inputs.Tie as tie
+
+-- the lines that are left after the first, the second ..
+abbrev left5 : Inputs → List Line
+left5 t = badRandom (t .random) ∷ []
+
+abbrev left4 : Inputs → List Line
+left4 t = badCount (t .pieces) (t .secret) (t .random) ∷ left5 t
+
+abbrev left3 : Inputs → List Line
+left3 t = badSecret (t .secret) ∷ left4 t
+
+abbrev left2 : Inputs → List Line
+left2 t = badWidth (t .secret) ∷ left3 t
+
+abbrev left1 : Inputs → List Line
+left1 t = badHolder (t .people) (t .holder) ∷ left2 t
+
+abbrev left0 : Inputs → List Line
+left0 t = badNumber (t .number) ∷ left1 t
+
+abbrev left6 : Inputs → List Line
+left6 t = []
+
+-- what is checked, and: all lines say what those that are left say
+abbrev checked : tie.Start → Inputs
+checked s = inputsOf (s .args .people) (s .args .k) (s .args .deal-number) (s .args .holder) (s .args .secret .now) (s .args .random .now)
+
+abbrev Left : tie.Start → (Inputs → List Line) → Type 0
+Left s rest =
+    Says (said (inputLines (s .args .people) (s .args .k) (s .args .deal-number) (s .args .holder) (s .args .secret .now) (s .args .random .now)))
+    (rest (checked s))
+
+on0 : (t : Inputs) → Says (said (inputLines (t .people) (t .pieces) (t .number) (t .holder) (t .secret) (t .random))) (left0 t)
+unfolding inputLines
+on0 t = whole _
+
+on1 : (c : tie.Else1) → Left (c .before .before .before .before) left1
+unfolding badNumber
+on1 c = passes (on0 (checked (c .before .before .before .before))) (sym (c .before .outside .ensures) ∙ c .if1 .left)
+
+on2 : (c : tie.Else2) → Left (c .before .before .before .before .before .before) left2
+unfolding badHolder
+on2 c = passes (on1 (c .before .before)) (sym (c .before .outside2 .ensures) ∙ c .if2 .left)
+
+on3 : (c : tie.Else3) → Left (c .before .before .before .before .before .before .before .before) left3
+unfolding badWidth
+on3 c = passes (on2 (c .before .before)) (sym (c .before .outside3 .ensures) ∙ c .if3 .left)
+
+on4 : (c : tie.Else4) → Left (c .before .before .before .before .before .before .before .before .before .before) left4
+unfolding badSecret
+on4 c = passes (on3 (c .before .before)) (found-none (c .before .first-large .ensures) (c .if4 .left))
+
+on5 : (c : tie.Else5) → Left (c .before .before .before .before .before .before .before .before .before .before .before) left5
+unfolding badCount
+on5 c = passes (on4 (c .before)) (rw (eq-eqb _ _ (c .if5 .left)))
+
+on6 : (c : tie.Else6) → Left (c .before .before .before .before .before .before .before .before .before .before .before .before .before) left6
+unfolding badRandom
+on6 c = passes (on5 (c .before .before)) (found-none (c .before .first-large2 .ensures) (c .if6 .left))
+
+-- at most 16 words with at most 69 coefficients each
+few : (c : tie.Else4)
+    → let a = c .before .before .before .before .before .before .before .before .before .before .args in length (a .secret .now) * (a .k - 1) ≤ 16 * 70
+few c =
+    let w = c .before .before in
+    let s = w .before .before .before .before .before .before .before .before in
+    let most : s .args .k - 1 ≤ 70 = omega arith in
+    mul-le-mul (in-range 16 (length (s .args .secret .now)) (sym (w .before .outside3 .ensures) ∙ w .if3 .left) .1) most
+
+outside-requires : tie.Need-outside-requires
+outside-requires c κs = search needs
+
+refuse-requires : tie.Need-refuse-requires
+refuse-requires c κs = search needs
+
+returns : tie.Need-returns
+unfolding badNumber
+returns c = c .refuse .ensures ∙ speaks (on0 (checked (c .before .before .before .before .before))) (sym (c .before .before .outside .ensures) ∙ c .before .if1 .taken)
+
+outside-requires-2 : tie.Need-outside-requires-2
+outside-requires-2 c κs = search needs
+
+refuse-requires-2 : tie.Need-refuse-requires-2
+refuse-requires-2 c κs = search needs
+
+returns-2 : tie.Need-returns-2
+unfolding badHolder
+returns-2 c = c .refuse2 .ensures ∙ speaks (on1 (c .before .before .before)) (sym (c .before .before .outside2 .ensures) ∙ c .before .if2 .taken)
+
+outside-requires-3 : tie.Need-outside-requires-3
+outside-requires-3 c κs = search needs
+
+refuse-requires-3 : tie.Need-refuse-requires-3
+refuse-requires-3 c κs = search needs
+
+returns-3 : tie.Need-returns-3
+unfolding badWidth
+returns-3 c = c .refuse3 .ensures ∙ speaks (on2 (c .before .before .before)) (sym (c .before .before .outside3 .ensures) ∙ c .before .if3 .taken)
+
+first-large-requires : tie.Need-first-large-requires
+first-large-requires c κs = search needs
+
+refuse-requires-4 : tie.Need-refuse-requires-4
+refuse-requires-4 c κs = search needs
+
+returns-4 : tie.Need-returns-4
+unfolding badSecret
+returns-4 c =
+    let found = c .before .before .first-large .ensures in
+    c .refuse4 .ensures ∙ rw found (speaks (on3 (c .before .before .before)) (found-at found (c .before .if4 .taken)))
+
+sub-if5 : tie.Need-sub-if5
+sub-if5 c = search needs
+
+mul-if5 : tie.Need-mul-if5
+mul-if5 c = omega (arith, few c)
+
+refuse-requires-5 : tie.Need-refuse-requires-5
+refuse-requires-5 c κs = search needs
+
+returns-5 : tie.Need-returns-5
+unfolding badCount
+returns-5 c = c .refuse5 .ensures ∙ speaks (on4 (c .before .before)) (rw (ne-eqb _ _ (c .before .if5 .taken)))
+
+first-large-requires-2 : tie.Need-first-large-requires-2
+first-large-requires-2 c κs = search needs
+
+refuse-requires-6 : tie.Need-refuse-requires-6
+refuse-requires-6 c κs = search needs
+
+returns-6 : tie.Need-returns-6
+unfolding badRandom
+returns-6 c =
+    let found = c .before .before .first-large2 .ensures in
+    c .refuse6 .ensures ∙ rw found (speaks (on5 (c .before .before .before)) (found-at found (c .before .if6 .taken)))
+
+returns-7 : tie.Need-returns-7
+returns-7 c = silent (on6 c)
+
+pub check-inputs-spec : {M : Type 1} → statement M
+check-inputs-spec =
+    tie.close
+    (tie.spec
+    outside-requires
+    refuse-requires
+    returns
+    outside-requires-2
+    refuse-requires-2
+    returns-2
+    outside-requires-3
+    refuse-requires-3
+    returns-3
+    first-large-requires
+    refuse-requires-4
+    returns-4
+    sub-if5
+    mul-if5
+    refuse-requires-5
+    returns-5
+    first-large-requires-2
+    refuse-requires-6
+    returns-6
+    returns-7)

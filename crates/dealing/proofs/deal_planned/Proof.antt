@@ -1,0 +1,66 @@
+-- `dealing::deal_planned` meets its contract: a refusal of the checks is kept, and else what writing the card answers is answered.
+-- Assumes nothing.
+use mathlib.Core.Path.{refl, sym, ap, _∙_}
+use mathlib.Core.List.{List, [], _∷_}
+use lib.ListN.{length}
+use borrow.Author.Needs.{needs}
+use Rattle.answer.specs.Outcome.{outcome, done}
+use Rattle.answer.specs.Checks.{Line}
+use Rattle.answer.proofs.CheckLaws.{stops, goes-on, done-passed}
+use Rattle.dealing.specs.Dealt.{inputLines, noRoom}
+use Rattle.dealing.specs.Rows.{inputsOf, heldIn}
+use Rattle.dealing.proofs.InputLaws.{lines-ready}
+use Rattle.dealing.proofs.deal_planned.Statement.{statement}
+use Rattle.dealing.proofs.deal_planned.Tie as tie
+
+-- refusals 8 to 11 of the call
+abbrev lines : tie.Start → List Line
+lines s = inputLines (s .args .people) (s .args .k) (s .args .deal-number) (s .args .holder) (s .args .secret .now) (s .args .random .now)
+
+check-inputs-requires : tie.Need-check-inputs-requires
+check-inputs-requires c κs = search needs
+
+enum-known-r : tie.Need-enum-known-r
+enum-known-r c = search needs
+
+enum-told : tie.Need-enum-told
+enum-told c = search needs
+
+write-card-requires : tie.Need-write-card-requires
+write-card-requires c κs =
+    let e = c .before in
+    let s = e .before .before .before .before .before .before in
+    lines-ready (inputsOf (s .args .people) (s .args .k) (s .args .deal-number) (s .args .holder) (s .args .secret .now) (s .args .random .now))
+    (s .pre .0) (s .pre .1) (s .pre .2)
+    (done-passed (lines s) (done 0) _ (sym (e .before .before .check-inputs .ensures) ∙ ap outcome (e .enum-told .given .1)) .0)
+
+returns : tie.Need-returns
+returns c =
+    let m = c .before .before in
+    let s = m .before .before .before .before .before in
+    let n = length (heldIn (s .args .rows .now) (s .args .holder) (s .args .k)) in
+    (stops (lines s) (m .before .check-inputs .ensures) (noRoom n (length (s .args .out .now)) ∷ []) (done n) (c .before .r .given .1), refl)
+
+same-length : tie.Need-same-length
+same-length c = search needs
+
+returns-2 : tie.Need-returns-2
+returns-2 c =
+    let w = c .before .before .write-card in
+    let e = c .before .before .before .before in
+    let s = e .before .before .before .before .before .before in
+    let n = length (heldIn (s .args .rows .now) (s .args .holder) (s .args .k)) in
+    let on = goes-on (lines s) (e .before .before .check-inputs .ensures) (noRoom n (length (s .args .out .now)) ∷ []) (done n) (e .enum-told .given .1) in
+    (w .ensures .0 ∙ sym on, w .ensures .1)
+
+pub deal-planned-spec : {M : Type 1} → statement M
+deal-planned-spec =
+    tie.close
+    (tie.spec
+    check-inputs-requires
+    enum-known-r
+    enum-told
+    write-card-requires
+    returns
+    same-length
+    returns-2)

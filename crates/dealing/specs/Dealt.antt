@@ -1,0 +1,81 @@
+-- What dealing answers and writes: "Dealing checks 1 to 12 in that order", and "A result writes only the first 512 × blocks bytes".
+-- Assumes nothing.
+use Prim.Native.Nat.{ℕ, _-_, _*_}
+use mathlib.Core.Path.{_≡_}
+use mathlib.Core.Bool.{Bool, not, _||_}
+use mathlib.Core.List.{List, [], _∷_, _++_}
+use lib.Dec.{eqb, ltb}
+use lib.ListN.{length}
+use Rattle.answer.specs.declared.Kind.the-variants.{Deal as DealKind, Holder, Secret, Random, Room}
+use Rattle.answer.specs.Outcome.{Outcome, done}
+use Rattle.answer.specs.Checks.{Line, line, firstFail}
+use Rattle.answer.specs.Places.{firstPlace, found}
+use Rattle.answer.specs.Lent.{left}
+use Rattle.planning.specs.Planned.{planLines}
+use Rattle.dealing.specs.Deal.{Deal, pieceCount, held, card}
+
+-- a word above 32748
+abbrev pub tooLarge : ℕ → Bool
+tooLarge v = ltb 32748 v
+
+-- a number outside 1 to high
+abbrev pub outside : ℕ → ℕ → Bool
+outside high v = eqb v 0 || ltb high v
+
+-- 8 DEAL: "deal number outside 1 to 32748"
+unfoldable pub badNumber : ℕ → Line
+badNumber number = line DealKind (outside 32748 number) 0 0
+
+-- 9 HOLDER: "holder outside 1 to n"
+unfoldable pub badHolder : ℕ → ℕ → Line
+badHolder people holder = line Holder (outside people holder) 0 0
+
+-- 10 SECRET: "w outside 1 to 16 (a = 0)"
+unfoldable pub badWidth : List ℕ → Line
+badWidth secret = line Secret (outside 16 (length secret)) 0 0
+
+-- 10 SECRET: "else a word above 32748", "a: first bad word"
+unfoldable pub badSecret : List ℕ → Line
+badSecret secret = line Secret (found (firstPlace tooLarge secret)) (firstPlace tooLarge secret) 0
+
+-- 11 RANDOM: "count not w(k−1) (a = 0)"
+unfoldable pub badCount : ℕ → List ℕ → List ℕ → Line
+badCount k secret random = line Random (not (eqb (length random) (length secret * (k - 1)))) 0 0
+
+-- 11 RANDOM: "else a word above 32748", "a: first bad word"
+unfoldable pub badRandom : List ℕ → Line
+badRandom random = line Random (found (firstPlace tooLarge random)) (firstPlace tooLarge random) 0
+
+-- 8 to 11, in their order
+unfoldable pub inputLines : ℕ → ℕ → ℕ → ℕ → List ℕ → List ℕ → List Line
+inputLines people k number holder secret random =
+    badNumber number ∷ badHolder people holder ∷ badWidth secret ∷ badSecret secret ∷ badCount k secret random ∷ badRandom random ∷ []
+
+-- 12 ROOM: "lent output too short", "a: blocks .. needed"
+unfoldable pub noRoom : ℕ → ℕ → Line
+noRoom blocks room = line Room (ltb room (512 * blocks)) blocks 0
+
+-- how many blocks the holder's card has
+unfoldable pub blockCount : Deal → ℕ → ℕ
+blockCount d holder = length (held d holder)
+
+-- 1 to 12, in their order: for one holder's card into a lent output of so many bytes
+unfoldable pub dealLines : Deal → ℕ → ℕ → List Line
+dealLines d holder room =
+    planLines (d .policy .people) (d .policy .required) (d .policy .forbidden)
+    ++ (inputLines (d .policy .people) (pieceCount d) (d .number) holder (d .secret) (d .random) ++ noRoom (blockCount d holder) room ∷ [])
+
+-- what dealing answers: "Dealing returns the number of blocks"
+unfoldable pub dealing : Deal → ℕ → ℕ → Outcome ℕ
+dealing d holder room = firstFail (dealLines d holder room) (done (blockCount d holder))
+
+-- what the lent output holds then: the card over its front, or, refused, what it held
+unfoldable pub dealtInto : Deal → ℕ → List ℕ → List ℕ
+dealtInto d holder out = left (dealing d holder (length out)) (card d holder) out
+
+-- the deal was made: some card of it was dealt
+pub record Made (d : Deal) : Type 0 where
+  pub holder : ℕ
+  pub room : ℕ
+  pub blocks : ℕ
+  pub answer : dealing d holder room ≡ done blocks

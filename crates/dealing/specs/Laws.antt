@@ -1,0 +1,50 @@
+-- The laws that dealing owes; their proofs are in proofs/Laws.antt.
+-- Assumes nothing.
+use Prim.Native.Nat.{ℕ, _*_, _≤_}
+use mathlib.Core.Path.{_≡_}
+use mathlib.Core.List.{List, _++_}
+use lib.ListN.{length, drop}
+use Rattle.answer.specs.Outcome.{done, refused}
+use Rattle.planning.specs.Groups.{_∈_}
+use Rattle.block.specs.Words.{bytesOf}
+use Rattle.block.specs.Open.{opening, valueBytes, wordsOf, TrueBlock}
+use Rattle.dealing.specs.Deal.{Deal, held, values, header, blockOf, card}
+use Rattle.dealing.specs.Dealt.{Made, blockCount, dealing, dealtInto}
+
+-- "A card depends on the policy, the deal number, the holder and the pieces held, and on nothing else." (Of the policy, not on the
+-- forbidden sets.)
+abbrev pub CardDepends : Type 0
+CardDepends = (d d′ : Deal) (holder : ℕ)
+    → d .policy .people ≡ d′ .policy .people
+    → d .policy .required ≡ d′ .policy .required
+    → d .number ≡ d′ .number
+    → ((j : ℕ) → j ∈ held d holder → values d j ≡ values d′ j)
+    → card d holder ≡ card d′ holder
+
+-- Every block of a card is true, and opens to its words and values.
+abbrev pub BlocksOpen : Type 0
+BlocksOpen = (d : Deal) → Made d → (holder j : ℕ) → 1 ≤ holder → holder ≤ d .policy .people → j ∈ held d holder → (rest : List ℕ)
+    → TrueBlock (blockOf d holder j ++ rest)
+    × (opening (blockOf d holder j ++ rest) ≡ done (wordsOf (header d holder j)))
+    × (valueBytes (blockOf d holder j ++ rest) ≡ bytesOf (values d j))
+
+-- "A card is one block of 512 bytes for each piece held."
+abbrev pub CardLength : Type 0
+CardLength = (d : Deal) → Made d → (holder : ℕ) → 1 ≤ holder → holder ≤ d .policy .people → length (card d holder) ≡ 512 * blockCount d holder
+
+-- A deal of which one card was dealt can deal every card: only the room is left to check.
+abbrev pub DealsAll : Type 0
+DealsAll = (d : Deal) → Made d → (holder : ℕ) → 1 ≤ holder → holder ≤ d .policy .people → (room : ℕ) → 512 * blockCount d holder ≤ room
+    → dealing d holder room ≡ done (blockCount d holder)
+
+-- "A refusal changes nothing lent."
+abbrev pub RefusalKeeps : Type 0
+RefusalKeeps = (d : Deal) (holder : ℕ) (out : List ℕ) (m a b : ℕ) → dealing d holder (length out) ≡ refused m a b → dealtInto d holder out ≡ out
+
+-- "A result writes only the first 512 × blocks bytes .. the rest stays": those bytes are the card.
+abbrev pub ResultWrites : Type 0
+ResultWrites = (d : Deal) (holder : ℕ) (out : List ℕ) (blocks : ℕ) → dealing d holder (length out) ≡ done blocks
+    → (blocks ≡ blockCount d holder)
+    × (length (card d holder) ≡ 512 * blocks)
+    × (512 * blocks ≤ length out)
+    × (dealtInto d holder out ≡ card d holder ++ drop (512 * blocks) out)

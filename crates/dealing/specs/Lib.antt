@@ -1,0 +1,4 @@
+pub mod Deal
+pub mod Dealt
+pub mod Rows
+pub mod Laws

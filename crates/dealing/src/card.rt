@@ -1,0 +1,129 @@
+// A holder's card, block by block, from the table of rows: a person holds the pieces whose row does not mark that person.
+use answer::Answer;
+use answer::Kind;
+use block::Words;
+ghost use mathlib.Core.Path.{_≡_};
+ghost use mathlib.Core.List.{[], _∷_, _++_};
+ghost use Prim.Native.Nat.{_+_, _*_, _≤_};
+ghost use lib.ListN.{length, take, drop};
+ghost use Rattle.answer.specs.Outcome.{outcome, done};
+ghost use Rattle.answer.specs.Checks.{firstFail};
+ghost use Rattle.answer.specs.Lent.{over, left};
+ghost use Rattle.field.specs.Poly.{Below};
+ghost use Rattle.field.specs.Pieces.{values};
+ghost use Rattle.dealing.specs.Dealt.{noRoom};
+ghost use Rattle.dealing.specs.Rows.{inputsOf, Ready, heldIn, blockFor, cardIn, roomSays};
+
+// How many of the first k rows do not mark the holder.
+fn held_count(rows: &[[bool; 8]; 70], k: usize, holder: usize) -> usize
+    requires { ⌜ (k ≤ 70) × (1 ≤ holder) × (holder ≤ 8) ⌝ }
+    ensures { λ r. ⌜ r ≡ length (heldIn (now (rows .entry)) holder k) ⌝ }
+{
+    let column = holder - 1;
+    let mut count: usize = 0;
+    let mut i: usize = 0;
+    while i < k {
+        if !rows[i][column] {
+            count += 1;
+        }
+        i += 1;
+    }
+    count
+}
+
+// The values of piece j: the first of the array, one for each word of the secret, which has q coefficients.
+fn values_of(secret: &[u16], random: &[u16], q: usize, j: u16) -> [u16; 16]
+    requires { ⌜ (length (now secret) ≤ 16) × (length (now random) ≡ length (now secret) * q) ⌝ }
+    requires { ⌜ Below (now secret) × Below (now random) ⌝ }
+    ensures { λ r. ⌜ take (length (now (secret .entry))) r ≡ values q (now (secret .entry)) (now (random .entry)) j ⌝ }
+{
+    let mut made = [0u16; 16];
+    let mut i: usize = 0;
+    while i < secret.len() {
+        let d = secret[i];
+        let at = i * q;
+        let end = at + q;
+        made[i] = field::piece_of(d, &random[at..end], j);
+        i += 1;
+    }
+    made
+}
+
+// Writes the block of piece j from byte `at` on; the rest stays.
+fn write_piece(
+    people: usize,
+    k: usize,
+    deal_number: usize,
+    holder: usize,
+    secret: &[u16],
+    random: &[u16],
+    j: usize,
+    out: &mut [u8],
+    at: usize,
+)
+    requires { ⌜ at + 512 ≤ length (now out) ⌝ }
+    requires { ⌜ Ready (inputsOf people k «deal_number» holder (now secret) (now random)) ⌝ }
+    requires { ⌜ (1 ≤ j) × (j ≤ k) ⌝ }
+    ensures { λ _.
+        let t = inputsOf people k «deal_number» holder (now (secret .entry)) (now (random .entry)) in
+        ⌜ now (out .exit) ≡ take at (now (out .entry)) ++ over (blockFor t j) (drop at (now (out .entry))) ⌝ }
+{
+    let width = secret.len();
+    let made = values_of(secret, random, k - 1, j as u16);
+    let h = Words {
+        mark: 1987,
+        deal: deal_number as u16,
+        holder: holder as u16,
+        people: people as u16,
+        pieces: k as u16,
+        width: width as u16,
+        piece: j as u16,
+    };
+    block::write_at(out, at, h, &made[..width]);
+}
+
+// Refusal 12, or the holder's card, written over the front of what is lent, and how many blocks it has.
+pub fn write_card(
+    rows: &[[bool; 8]; 70],
+    people: usize,
+    k: usize,
+    deal_number: usize,
+    holder: usize,
+    secret: &[u16],
+    random: &[u16],
+    out: &mut [u8],
+) -> Answer
+    requires { ⌜ Ready (inputsOf people k «deal_number» holder (now secret) (now random)) ⌝ }
+    ensures says { λ r.
+        let t = inputsOf people k «deal_number» holder (now (secret .entry)) (now (random .entry)) in
+        ⌜ outcome r ≡ roomSays (now (rows .entry)) t (length (now (out .entry))) ⌝ }
+    ensures leaves { λ r.
+        let t = inputsOf people k «deal_number» holder (now (secret .entry)) (now (random .entry)) in
+        ⌜ now (out .exit) ≡ left (outcome r) (cardIn (now (rows .entry)) t k) (now (out .entry)) ⌝ }
+{
+    let blocks = held_count(rows, k, holder);
+    if out.len() < 512 * blocks {
+        return answer::refuse(Kind::Room, blocks, 0);
+    }
+    let column = holder - 1;
+    let mut at: usize = 0;
+    let mut row: usize = 0;
+    while row < k {
+        if !rows[row][column] {
+            write_piece(
+                people,
+                k,
+                deal_number,
+                holder,
+                secret,
+                random,
+                row + 1,
+                out,
+                at,
+            );
+            at += 512;
+        }
+        row += 1;
+    }
+    Answer::Done(blocks)
+}
