@@ -1,0 +1,356 @@
+// Deals P11's deal to every holder, a deal to eight people of whom any five open, and inputs that give each refusal, and prints what comes
+// out: of a card the words 1 to 8 and 256 of each block and the byte past it, else the refusal. It is compared with `stdout`.
+use answer::Answer;
+use answer::Refusal;
+ghost use Prim.Native.Nat.{_≤_};
+
+fn number(n: usize) {
+    io::write_all(1, b" ");
+    io::print_decimal(1, n as u64);
+}
+
+fn wide(x: u8) -> usize {
+    x as usize
+}
+
+// Word i of b.
+fn word(b: &[u8], i: usize)
+    requires { ⌜ i ≤ 18000 ⌝ }
+{
+    if 1 <= i {
+        if 2 * i <= b.len() {
+            number(block::word(b, i) as usize);
+        }
+    }
+}
+
+// The block that follows so many: words 1 to 8 and 256.
+fn show_block(b: &[u8], before: usize)
+    requires { ⌜ before ≤ 69 ⌝ }
+{
+    let first = 256 * before;
+    io::write_all(1, b"\n ");
+    for i in 1..9 {
+        word(b, first + i);
+    }
+    word(b, first + 256);
+}
+
+// The blocks of a card, and the byte that follows it.
+fn show_card(b: &[u8], count: usize) {
+    for i in 0..70 {
+        if i < count {
+            show_block(b, i);
+        }
+    }
+    if count <= 70 {
+        let at = 512 * count;
+        if at < b.len() {
+            io::write_all(1, b"\n  then");
+            number(wide(b[at]));
+        }
+    }
+}
+
+fn refused(r: Refusal) {
+    let kind = r.kind;
+    io::write_all(1, b" refused");
+    number(answer::number_of(kind));
+    number(r.a);
+    number(r.b);
+}
+
+fn show(answer: Answer, out: &[u8]) {
+    match answer {
+        Answer::Done(count) => {
+            io::write_all(1, b" blocks");
+            number(count);
+            show_card(out, count);
+        }
+        Answer::Refused(r) => refused(r),
+    }
+    io::write_all(1, b"\n");
+}
+
+// Deals one card into the first `room` bytes of what is lent, and prints the answer under its name.
+fn deal(
+    name: &[u8],
+    people: usize,
+    required: &[u16],
+    forbidden: &[u16],
+    deal_number: usize,
+    holder: usize,
+    secret: &[u16],
+    random: &[u16],
+    out: &mut [u8],
+    room: usize,
+) {
+    if room <= out.len() {
+        io::write_all(1, name);
+        number(holder);
+        io::write_all(1, b":");
+        let answer = dealing::deal(
+            people,
+            required,
+            forbidden,
+            deal_number,
+            holder,
+            secret,
+            random,
+            &mut out[..room],
+        );
+        show(answer, out);
+    }
+}
+
+// The same into the first of 18000 bytes, all of them 9.
+fn case(
+    name: &[u8],
+    people: usize,
+    required: &[u16],
+    forbidden: &[u16],
+    deal_number: usize,
+    holder: usize,
+    secret: &[u16],
+    random: &[u16],
+    room: usize,
+) {
+    let mut out = [9u8; 18000];
+    deal(
+        name,
+        people,
+        required,
+        forbidden,
+        deal_number,
+        holder,
+        secret,
+        random,
+        &mut out,
+        room,
+    );
+}
+
+// A case with the policy of P1.
+fn four(
+    name: &[u8],
+    deal_number: usize,
+    holder: usize,
+    secret: &[u16],
+    random: &[u16],
+    room: usize,
+) {
+    let required = [3u16, 6, 12];
+    let forbidden = [9u16];
+    case(
+        name,
+        4,
+        &required,
+        &forbidden,
+        deal_number,
+        holder,
+        secret,
+        random,
+        room,
+    );
+}
+
+// The same, with one secret word d and the coefficients a and b.
+fn one(name: &[u8], deal_number: usize, holder: usize, d: u16, a: u16, b: u16, room: usize) {
+    let secret = [d];
+    let random = [a, b];
+    four(name, deal_number, holder, &secret, &random, room);
+}
+
+// Secrets and randomness of other lengths.
+fn lengths() {
+    let none = [0u16; 0];
+    let seventeen = [1u16; 17];
+    let four_and_thirty = [1u16; 34];
+    let two = [1234u16, 0];
+    let three = [1u16, 32767, 32749];
+    let coefficients = [5u16, 7, 23483, 10512];
+    four(b"two words, holder", 7, 1, &two, &coefficients, 512);
+    four(b"no secret, holder", 7, 4, &none, &none, 512);
+    four(b"17 words, holder", 7, 4, &seventeen, &four_and_thirty, 512);
+    four(b"second word 32767, holder", 7, 4, &three, &none, 512);
+    four(
+        b"two words with two coefficients, holder",
+        7,
+        4,
+        &two,
+        &two,
+        512,
+    );
+    four(b"two words with none, holder", 7, 4, &two, &none, 512);
+}
+
+// Other policies: P3, whose holder 3 has no piece; one piece, which needs no randomness; and policies that planning refuses.
+fn policies() {
+    let none = [0u16; 0];
+    let first = [1u16];
+    let both = [3u16];
+    let words = [1u16, 32748];
+    case(
+        b"P3, no bytes, holder",
+        3,
+        &both,
+        &none,
+        1,
+        3,
+        &first,
+        &first,
+        0,
+    );
+    case(
+        b"one piece, holder",
+        1,
+        &first,
+        &none,
+        1,
+        1,
+        &words,
+        &none,
+        512,
+    );
+    case(
+        b"all wrong, and clash, holder",
+        2,
+        &both,
+        &both,
+        0,
+        5,
+        &none,
+        &none,
+        0,
+    );
+    case(
+        b"all wrong, and nine people, holder",
+        9,
+        &none,
+        &none,
+        0,
+        5,
+        &none,
+        &none,
+        0,
+    );
+}
+
+// Randomness for 16 words and 70 pieces.
+fn many() -> [u16; 1104] {
+    let mut words = [0u16; 1104];
+    for i in 0..1104 {
+        words[i] = ((i * 7919 + 13) % 32749) as u16;
+    }
+    words
+}
+
+// The sets of five of eight people.
+fn fives() -> [u16; 56] {
+    let mut sets = [0u16; 56];
+    let mut n: usize = 0;
+    for g in 0..256 {
+        if u32::count_ones(g) == 5 {
+            if n < 56 {
+                sets[n] = g as u16;
+                n += 1;
+            }
+        }
+    }
+    sets
+}
+
+// Any five of eight people, 16 words.
+fn eight(name: &[u8], holder: usize, room: usize) {
+    let none = [0u16; 0];
+    let sets = fives();
+    let secret = [
+        1u16,
+        2,
+        3,
+        5,
+        8,
+        13,
+        21,
+        34,
+        32748,
+        0,
+        999,
+        1000,
+        12345,
+        32000,
+        31,
+        16384,
+    ];
+    let random = many();
+    case(name, 8, &sets, &none, 32748, holder, &secret, &random, room);
+}
+
+fn cards() {
+    for holder in 1..5 {
+        one(b"P11, holder", 7, holder, 1234, 5, 7, 1536);
+    }
+    one(b"P9, holder", 7, 2, 32748, 1, 0, 1536);
+    one(b"P9, holder", 7, 3, 32748, 1, 0, 1536);
+    one(
+        b"coefficients of 32748, holder",
+        7,
+        3,
+        0,
+        32748,
+        32748,
+        1536,
+    );
+    one(b"512 bytes, holder", 7, 4, 1234, 5, 7, 512);
+    one(b"511 bytes, holder", 7, 4, 1234, 5, 7, 511);
+    one(b"1023 bytes, holder", 7, 2, 1234, 5, 7, 1023);
+    one(b"no bytes, holder", 7, 2, 1234, 5, 7, 0);
+}
+
+fn ranges() {
+    one(b"deal 32748, holder", 32748, 4, 1234, 5, 7, 512);
+    one(b"deal 32749, holder", 32749, 4, 1234, 5, 7, 512);
+    one(b"deal 0, holder", 0, 4, 1234, 5, 7, 512);
+    one(b"holder", 7, 0, 1234, 5, 7, 512);
+    one(b"holder", 7, 5, 1234, 5, 7, 512);
+    one(b"secret 32749, holder", 7, 4, 32749, 5, 7, 512);
+    one(b"coefficient 32749, holder", 7, 4, 1234, 5, 32749, 512);
+    one(b"all wrong, holder", 0, 5, 32749, 32749, 32749, 0);
+    one(
+        b"all wrong but the deal, holder",
+        7,
+        5,
+        32749,
+        32749,
+        32749,
+        0,
+    );
+    one(
+        b"secret, randomness and room wrong, holder",
+        7,
+        4,
+        32749,
+        32749,
+        32749,
+        0,
+    );
+    one(
+        b"randomness and room wrong, holder",
+        7,
+        4,
+        1234,
+        32749,
+        32749,
+        0,
+    );
+}
+
+fn main() {
+    cards();
+    ranges();
+    lengths();
+    policies();
+    eight(b"any five of eight, holder", 1, 17920);
+    eight(b"any five of eight, holder", 8, 18000);
+    eight(b"any five of eight, 17919 bytes, holder", 8, 17919);
+}
