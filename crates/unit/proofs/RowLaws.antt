@@ -1,0 +1,105 @@
+-- From rows of member marks back to groups: a row's number is its group, and the rows of a plan give the groups of its pieces.
+-- Assumes nothing.
+use mathlib.Core.Path.{_≡_, refl, sym, ap, ap₂, _∙_}
+use mathlib.Core.Bool.{Bool}
+use mathlib.Core.List.{List, [], _∷_, _++_, map, List·Memᴰ, List·Memᴰ·head, List·Memᴰ·tail}
+use Prim.Native.Nat.{ℕ, suc, _+_, _-_, _^_, _≤_, _<_, zero-le}
+use native.Mathlib.Numerals.{add-one}
+use native.Mathlib.Omega.{arith}
+use lib.Dec.{eqb}
+use lib.ListN.{length, getD, set, take, drop, replicate, length-append, length-replicate}
+use borrow.Author.Tests.{eqb-true}
+use lib.Pow.{pow-mono}
+use lib.Seq.{take-suc, take-at, drop-cons, set-at, append-snoc, length-take-le}
+use Rattle.answer.specs.Outcome.{done}
+use Rattle.answer.specs.Lent.{over}
+use Rattle.answer.specs.Places.{those}
+use Rattle.answer.proofs.ThoseLaws.{in-those, those-all}
+use Rattle.planning.specs.Sets.{member, marks}
+use Rattle.planning.specs.Groups.{maximalBy, groupsBy, groups, authorised, rowsOf}
+use Rattle.planning.specs.Planned.{planned, plannedRows, rowsFor}
+use Rattle.planning.proofs.Laws.{accepted-listed, some-piece}
+use Rattle.unit.specs.Said.{numberOf}
+
+-- ---- a row's number is its group: one test that antt computes over the 256 groups
+right : ℕ → Bool
+right g = eqb (numberOf (marks g)) g
+
+tested : length (those right 0 256) ≡ 256
+unfolding those right numberOf marks member
+tested = refl
+
+pub number-marks : (g : ℕ) → g < 256 → numberOf (marks g) ≡ g
+number-marks g h = eqb-true (numberOf (marks g)) g (unfold right in those-all right 0 256 tested g zero-le (omega arith))
+
+-- ---- the rows of groups give the groups
+numbers : (l : List ℕ) → ((g : ℕ) → List·Memᴰ g l → g < 256) → map numberOf (map marks l) ≡ l
+numbers [] h = refl
+numbers (g ∷ l) h = ap₂ (λ (x : ℕ) (y : List ℕ). x ∷ y) (number-marks g (h g (List·Memᴰ·head refl))) (numbers l (λ s m. h s (List·Memᴰ·tail m)))
+
+map-length : (l : List ℕ) → length (map marks l) ≡ length l
+map-length [] = refl
+map-length (g ∷ l) = ap suc (map-length l)
+
+pub rows-numbers : (n : ℕ) (required forbidden : List ℕ) (k : ℕ) → planned n required forbidden ≡ done k
+    → map numberOf (take k (plannedRows n required forbidden)) ≡ groups n required
+unfolding plannedRows rowsOf groupsBy
+rows-numbers n required forbidden k e =
+    let l = groups n required in
+    let few = accepted-listed n required forbidden k e .few in
+    let count : length (map marks l) ≡ k = map-length l ∙ sym (some-piece n required forbidden k e .0) in
+    let most : 2 ^ n ≤ 2 ^ 8 = pow-mono few in
+    ap (λ o. map numberOf (take k (rowsFor o l))) e
+    ∙ ap (map numberOf) (take-at (map marks l) (replicate (70 - length l) (marks 0)) k count)
+    ∙ numbers l (λ g m. omega (arith, in-those (maximalBy (authorised required) n) 0 (2 ^ n) g m .1))
+
+pub rows-seventy : (n : ℕ) (required forbidden : List ℕ) (k : ℕ) → planned n required forbidden ≡ done k → length (plannedRows n required forbidden) ≡ 70
+unfolding plannedRows rowsOf
+rows-seventy n required forbidden k e =
+    let l = groups n required in
+    let s = some-piece n required forbidden k e in
+    ap (λ o. length (rowsFor o l)) e
+    ∙ omega (arith, length-append (map marks l) (replicate (70 - length l) (marks 0)), map-length l, length-replicate (70 - length l) (marks 0), s .0, s .2)
+
+-- ---- the loop: one row more
+map-snoc : (rows : List (List Bool)) (row : List Bool) → map numberOf (rows ++ row ∷ []) ≡ map numberOf rows ++ numberOf row ∷ []
+map-snoc [] row = refl
+map-snoc (r ∷ rows) row = ap (λ (l : List ℕ). numberOf r ∷ l) (map-snoc rows row)
+
+numbers-length : (rows : List (List Bool)) → length (map numberOf rows) ≡ length rows
+numbers-length [] = refl
+numbers-length (r ∷ rows) = ap suc (numbers-length rows)
+
+pub write-on : (rows : List (List Bool)) (old now : List ℕ) (j v : ℕ) → j < length rows → j < length old → v ≡ numberOf (getD rows j [])
+    → now ≡ map numberOf (take j rows) ++ drop j old → set now j v ≡ map numberOf (take (j + 1) rows) ++ drop (j + 1) old
+write-on rows old now j v h l e is =
+    let done = map numberOf (take j rows) in
+    let n : length done ≡ j = numbers-length (take j rows) ∙ length-take-le j rows (omega arith) in
+    let more : map numberOf (take (j + 1) rows) ≡ done ++ v ∷ []
+    = ap (λ (x : ℕ). map numberOf (take x rows)) (add-one j) ∙ ap (map numberOf) (take-suc rows j [] h) ∙ map-snoc (take j rows) (getD rows j [])
+    ∙ ap (λ (x : ℕ). done ++ x ∷ []) (sym e) in
+    ap (λ (l : List ℕ). set l j v) (is ∙ ap (λ (l : List ℕ). done ++ l) (drop-cons old j 0 l))
+    ∙ set-at done (getD old j 0) (drop (suc j) old) v j n
+    ∙ sym (append-snoc done v (drop (suc j) old))
+    ∙ ap₂ (λ (a : List ℕ) (b : ℕ). a ++ drop b old) (sym more) (sym (add-one j))
+
+pub write-end : (rows : List (List Bool)) (old now : List ℕ) (k j : ℕ) → j ≡ k → k ≤ length rows → now ≡ map numberOf (take j rows) ++ drop j old
+    → now ≡ over (map numberOf (take k rows)) old
+unfolding over
+write-end rows old now k j e h is =
+    is ∙ ap (λ (x : ℕ). map numberOf (take x rows) ++ drop x old) e
+    ∙ ap (λ (x : ℕ). map numberOf (take k rows) ++ drop x old) (sym (numbers-length (take k rows) ∙ length-take-le k rows h))
+
+-- ---- seven words stored one by one over seven places
+pub seven-over : (a b c d e f g : ℕ) (old : List ℕ) → length old ≡ 7
+    → set (set (set (set (set (set (set old 0 a) 1 b) 2 c) 3 d) 4 e) 5 f) 6 g ≡ over (a ∷ b ∷ c ∷ d ∷ e ∷ f ∷ g ∷ []) old
+unfolding over
+seven-over a b c d e f g (o1 ∷ o2 ∷ o3 ∷ o4 ∷ o5 ∷ o6 ∷ o7 ∷ []) h = refl
+seven-over a b c d e f g (o1 ∷ o2 ∷ o3 ∷ o4 ∷ o5 ∷ o6 ∷ o7 ∷ o8 ∷ old) h = absurd (omega arith)
+seven-over a b c d e f g [] h = absurd (omega arith)
+seven-over a b c d e f g (o1 ∷ []) h = absurd (omega arith)
+seven-over a b c d e f g (o1 ∷ o2 ∷ []) h = absurd (omega arith)
+seven-over a b c d e f g (o1 ∷ o2 ∷ o3 ∷ []) h = absurd (omega arith)
+seven-over a b c d e f g (o1 ∷ o2 ∷ o3 ∷ o4 ∷ []) h = absurd (omega arith)
+seven-over a b c d e f g (o1 ∷ o2 ∷ o3 ∷ o4 ∷ o5 ∷ []) h = absurd (omega arith)
+seven-over a b c d e f g (o1 ∷ o2 ∷ o3 ∷ o4 ∷ o5 ∷ o6 ∷ []) h = absurd (omega arith)

@@ -1,0 +1,96 @@
+-- `unit::titmeadow_plan` meets its contract: the rows of an accepted plan give the groups of its pieces.
+-- Assumes nothing.
+use mathlib.Core.Path.{_≡_, sym, ap, _∙_}
+use mathlib.Core.List.{List, map}
+use mathlib.Core.Bool.{Bool}
+use Prim.Native.Nat.{ℕ}
+use native.Mathlib.Omega.{arith}
+use lib.ListN.{length, take}
+use Rattle.answer.specs.Outcome.{outcome, done}
+use Rattle.answer.specs.Lent.{over}
+use Rattle.answer.proofs.LentLaws.{result-writes, refusal-keeps}
+use Rattle.planning.specs.Groups.{groups}
+use Rattle.planning.specs.Planned.{planned}
+use Rattle.planning.proofs.Laws.{some-piece}
+use Rattle.unit.specs.Said.{said, numberOf}
+use Rattle.unit.proofs.RowLaws.{rows-numbers, rows-seventy}
+use borrow.Author.Needs.{needs}
+use Rattle.unit.proofs.titmeadow_plan.Statement.{statement}
+use Rattle.unit.proofs.titmeadow_plan.Tie as tie
+
+accepted : (c : tie.After-known-told)
+    → planned (c .before .before .before .before .before .before .before .args .people) (c .before .before .before .before .before .before .before .args .required .now)
+    (c .before .before .before .before .before .before .before .args .forbidden .now) ≡ done (c .before .k .given .0 .0)
+accepted c =
+    let p = c .before .before .before .before in
+    sym (p .plan .ensures .0) ∙ ap outcome (sym (c .before .before .before .answer-of .ensures) ∙ c .before .k .given .1)
+
+plan-requires : tie.Need-plan-requires
+plan-requires c κs = search needs
+
+answer-of-requires : tie.Need-answer-of-requires
+answer-of-requires c κs = search needs
+
+enum-known-k : tie.Need-enum-known-k
+enum-known-k c = search needs
+
+rows-of-requires : tie.Need-rows-of-requires
+rows-of-requires c κs = search needs
+
+write-groups-requires : tie.Need-write-groups-requires
+write-groups-requires c κs =
+    let e = c .before .before .before in
+    let a = e .before .before .before .before .before .before .before .args in
+    let p = e .before .before .before .before in (
+      some-piece (a .people) (a .required .now) (a .forbidden .now) _ (accepted e) .2,
+      ap length (c .before .before .rows-of .ensures ∙ p .plan .ensures .1) ∙ rows-seventy (a .people) (a .required .now) (a .forbidden .now) _ (accepted e),
+      omega arith,
+    )
+
+said-of-requires : tie.Need-said-of-requires
+said-of-requires c κs = search needs
+
+enum-known-r : tie.Need-enum-known-r
+enum-known-r c = search needs
+
+said-of-requires-2 : tie.Need-said-of-requires-2
+said-of-requires-2 c κs = search needs
+
+returns : tie.Need-returns
+returns c =
+    let w = c .before in
+    let e = w .before .before .before .before in
+    let p = e .before .before .before .before in
+    let a = p .before .before .before .args in
+    let o = planned (a .people) (a .required .now) (a .forbidden .now) in
+    let rows = w .before .before .before .rows-of .ensures ∙ p .plan .ensures .1 in (
+      c .said-of .ensures ∙ sym (ap said (accepted e)),
+      w .write-groups .ensures
+          ∙ ap (λ (r : List (List Bool)). over (map numberOf (take (e .before .k .given .0 .0) r)) (a .groups .now)) rows
+          ∙ ap (λ (l : List ℕ). over l (a .groups .now)) (rows-numbers (a .people) (a .required .now) (a .forbidden .now) _ (accepted e))
+          ∙ sym (result-writes o _ (groups (a .people) (a .required .now)) (a .groups .now) (accepted e)),
+    )
+
+returns-2 : tie.Need-returns-2
+returns-2 c =
+    let t = c .before in
+    let p = t .before .before .before .before in
+    let a = p .before .before .before .args in
+    let o = planned (a .people) (a .required .now) (a .forbidden .now) in
+    let e = sym (p .plan .ensures .0) ∙ ap outcome (sym (t .before .before .before .answer-of .ensures) ∙ t .before .r .given .1) in
+    (c .said-of2 .ensures ∙ sym (ap said e), sym (refusal-keeps o _ _ _ (groups (a .people) (a .required .now)) (a .groups .now) e))
+
+pub titmeadow-plan-spec : {M : Type 1} → statement M
+titmeadow-plan-spec =
+    tie.close
+    (tie.spec
+    plan-requires
+    answer-of-requires
+    enum-known-k
+    rows-of-requires
+    write-groups-requires
+    said-of-requires
+    enum-known-r
+    said-of-requires-2
+    returns
+    returns-2)
