@@ -1,0 +1,46 @@
+/* Deals to four custodians, damages a card and joins: what the unit does with a good pile, a short one and a dirty one.
+ *   rt staticlib unit && cc -I include examples/deal_damage_join.c target/staticlib/libunit.a -o target/example && target/example
+ * It prints its four answers and ends with status 0 where they are those that document 01 gives. */
+#include <stdio.h>
+#include <string.h>
+#include "titmeadow.h"
+
+static const uint16_t required[] = {1 + 2, 2 + 4, 4 + 8};
+static const uint16_t forbidden[] = {1 + 8};
+static const uint16_t secret[] = {1234};
+static const uint16_t randomness[] = {5, 7};
+
+/* The cards of two holders, one after the other; how many bytes they have. */
+static size_t cards(size_t first, size_t second, uint8_t *pile, size_t room) {
+    size_t length = 0;
+    const size_t holders[] = {first, second};
+    for (int i = 0; i < 2; i++) {
+        titmeadow_answer dealt = titmeadow_deal(4, required, 3, forbidden, 1, 7, holders[i], secret, 1, randomness, 2, pile + length, room - length);
+        if (dealt.number != 0)
+            return 0;
+        length += 512 * dealt.a;
+    }
+    return length;
+}
+
+static int is(const char *what, titmeadow_answer answer, size_t number, size_t a, size_t b) {
+    printf("%s: %zu %zu %zu\n", what, answer.number, answer.a, answer.b);
+    return answer.number == number && answer.a == a && answer.b == b;
+}
+
+int main(void) {
+    static uint8_t pile[4 * 512];
+    uint16_t groups[70], joined[16] = {0};
+    int good = is("plan", titmeadow_plan(4, required, 3, forbidden, 1, groups), 0, 3, 0);
+
+    size_t length = cards(1, 2, pile, sizeof pile);
+    good &= is("holders 1 and 2", titmeadow_join(pile, length, joined, 16), 0, 1, 0) && joined[0] == 1234;
+
+    length = cards(1, 4, pile, sizeof pile);
+    good &= is("holders 1 and 4", titmeadow_join(pile, length, joined, 16), TITMEADOW_SHORT, 2, 3);
+
+    length = cards(1, 2, pile, sizeof pile);
+    memcpy(pile + 512 + 14, "\x7f\xff", 2); /* the reader could not read the first value of block 2 */
+    good &= is("a dirty slot", titmeadow_join(pile, length, joined, 16), TITMEADOW_UNREAD, 2, 0) && joined[0] == 1234;
+    return good ? 0 : 1;
+}
