@@ -1,0 +1,41 @@
+-- Block a of a card, where it stands on the card, is that of the a-th piece that the holder has.
+-- Assumes nothing.
+use Prim.Native.Nat.{ℕ, zero, suc, _-_, _*_, _≤_, _<_}
+use mathlib.Core.Path.{_≡_, refl, sym, ap, _∙_}
+use mathlib.Core.List.{List, [], _∷_, _++_, map, Memᴰ·of-map}
+use native.Mathlib.Nat.{not-suc-le-zero, le-of-suc-le-suc}
+use native.Mathlib.Omega.{arith}
+use lib.ListN.{length, getD, drop}
+use Rattle.answer.specs.Places.{at}
+use Rattle.answer.proofs.ThoseLaws.{at-in}
+use Rattle.dealing.specs.Deal.{Deal, held, blockOf, cardBlocks, card}
+use Rattle.dealing.proofs.MadeLaws.{InRange, block-length}
+use Rattle.demands.specs.Demand2.{CardBlock}
+use Rattle.demands.proofs.BlockLaws.{card-block}
+use Rattle.demands.proofs.FlatLaws.{Long, flat-drop}
+
+-- ---- a list of blocks made from a list of pieces
+map-at : (f : ℕ → List ℕ) (l : List ℕ) (a : ℕ) → a < length l → getD (map f l) a [] ≡ f (getD l a 0)
+map-at f [] a h = absurd (not-suc-le-zero h)
+map-at f (x ∷ l) zero h = refl
+map-at f (x ∷ l) (suc a) h = map-at f l a (le-of-suc-le-suc h)
+
+map-count : (f : ℕ → List ℕ) (l : List ℕ) → length (map f l) ≡ length l
+map-count f [] = refl
+map-count f (x ∷ l) = ap suc (map-count f l)
+
+module _ (d : Deal) (f : InRange d) (holder : ℕ) (least : 1 ≤ holder) (most : holder ≤ d .policy .people) where
+  card-long : Long (cardBlocks d holder)
+  unfolding cardBlocks
+  card-long = record {
+    long = λ b m. let r = Memᴰ·of-map (blockOf d holder) (held d holder) m in ap length (sym (r .2)) ∙ block-length d f holder least most (r .0);
+  }
+
+  pub block-at : (a : ℕ) → 1 ≤ a → a ≤ length (held d holder) → CardBlock d holder (at (held d holder) a) (drop (512 * (a - 1)) (card d holder))
+  unfolding card cardBlocks
+  block-at a l u =
+      let j = at (held d holder) a in
+      let r = flat-drop (cardBlocks d holder) card-long (a - 1) (omega (arith, map-count (blockOf d holder) (held d holder))) in
+      let q : drop (512 * (a - 1)) (card d holder) ≡ blockOf d holder j ++ r .0
+      = r .1 ∙ ap (λ (b : List ℕ). b ++ r .0) (map-at (blockOf d holder) (held d holder) (a - 1) (omega arith)) in
+      rw q (card-block d f holder j least most (at-in (held d holder) (a - 1) (omega arith)) (r .0))

@@ -1,0 +1,96 @@
+-- Demand 1, proved: each statement by its name in specs/Demand1.antt. Assumes nothing.
+use mathlib.Core.Path.{refl, sym, ap}
+use mathlib.Core.List.{List, [], _∷_, _++_}
+use Prim.Native.Nat.{ℕ}
+use Rattle.planning.specs.Groups.{pieceCount, some}
+use Rattle.planning.specs.Planned.{planLines, planned, people, long, strangers, nobody, opens, clash, wide, listLines}
+use Rattle.block.specs.Layout.{headerOf}
+use Rattle.block.specs.Open.{opening}
+use Rattle.block.proofs.Laws.{which-refusals}
+use Rattle.dealing.specs.Dealt.{badNumber, badHolder, badWidth, badSecret, badCount, badRandom, inputLines, noRoom, blockCount, dealLines, dealing}
+use Rattle.dealing.proofs.DealLaws.{refused-deal}
+use Rattle.dealing.proofs.MadeLaws.{made-in-range}
+use Rattle.dealing.proofs.Laws as dealt
+use Rattle.joining.specs.Pile.{blocks, width}
+use Rattle.joining.specs.Joined.{everyBlock, wholeLines, joinLines, joining}
+use Rattle.joining.proofs.Laws as joined
+use Rattle.demands.specs.Demand1 as demand
+use Rattle.demands.proofs.LineLaws.{ends, refuses, each-number, each-within}
+use Rattle.demands.proofs.UnreadLaws.{unread}
+
+-- ---- a result or a refusal
+pub plan-ends : demand.PlanEnds
+unfolding planned
+plan-ends n required forbidden = ends (planLines n required forbidden) (pieceCount n required)
+
+pub deal-ends : demand.DealEnds
+unfolding dealing
+deal-ends d holder room = ends (dealLines d holder room) (blockCount d holder)
+
+pub join-ends : demand.JoinEnds
+unfolding joining
+join-ends pile room = ends (joinLines pile room) (width pile)
+
+pub open-ends : demand.OpenEnds
+unfolding opening
+open-ends pile = ends (demand.openLines pile) (headerOf pile)
+
+-- ---- the order
+pub plan-order : demand.PlanOrder
+unfolding planLines listLines people long strangers nobody opens clash wide
+plan-order n required forbidden = refl
+
+pub deal-order : demand.DealOrder
+unfolding dealLines planLines listLines people long strangers nobody opens clash wide inputLines badNumber badHolder badWidth badSecret badCount badRandom noRoom
+deal-order d holder room = refl
+
+pub join-order : demand.JoinOrder
+unfolding joinLines everyBlock
+join-order pile room = ap (λ (ms : List ℕ). 13 ∷ 14 ∷ ms) (each-number pile (blocks pile) 1 (wholeLines pile room))
+
+pub open-order : demand.OpenOrder
+open-order pile = refl
+
+-- ---- the refusals of each call
+pub plan-refuses : demand.PlanRefuses
+unfolding planned some
+plan-refuses n required forbidden m a b e =
+    refuses 1 7 (planLines n required forbidden) (1 ∷ 2 ∷ 2 ∷ 3 ∷ 3 ∷ 4 ∷ 5 ∷ 6 ∷ 7 ∷ []) (pieceCount n required) m a b
+    (plan-order n required forbidden) refl e
+
+pub deal-refuses : demand.DealRefuses
+unfolding dealing some
+deal-refuses d holder room m a b e =
+    refuses 1 12 (dealLines d holder room) (1 ∷ 2 ∷ 2 ∷ 3 ∷ 3 ∷ 4 ∷ 5 ∷ 6 ∷ 7 ∷ 8 ∷ 9 ∷ 10 ∷ 10 ∷ 11 ∷ 11 ∷ 12 ∷ []) (blockCount d holder) m a b
+    (deal-order d holder room) refl e
+
+pub join-refuses : demand.JoinRefuses
+unfolding joining some
+join-refuses pile room m a b e =
+    refuses 12 20 (joinLines pile room) (13 ∷ 14 ∷ demand.eachBlock (blocks pile) ++ 18 ∷ 19 ∷ 20 ∷ 12 ∷ []) (width pile) m a b
+    (join-order pile room) (each-within (blocks pile) (18 ∷ 19 ∷ 20 ∷ 12 ∷ [])) e
+
+pub open-refuses : demand.OpenRefuses
+open-refuses = which-refusals
+
+pub deal-as-planned : demand.DealAsPlanned
+deal-as-planned d holder room m a b e = sym (refused-deal d m a b e holder room)
+
+-- ---- nothing lent is changed
+pub deal-keeps : demand.DealKeeps
+deal-keeps = dealt.refusal-keeps
+
+pub join-keeps : demand.JoinKeeps
+join-keeps = joined.refusal-keeps
+
+-- ---- slots
+pub join-small : demand.JoinSmall
+join-small pile room w e a i h l u = joined.then-joins pile room w e .sound .blocks-true .block a (h .0) (h .1) .clean .small i l u
+
+pub join-unread : demand.JoinUnread
+join-unread pile room a i whole few k t l u h = unread pile a i l u h room whole few k t
+
+pub deal-small : demand.DealSmall
+deal-small d holder room blocks e =
+    let f = made-in-range d (record { holder = holder; room = room; blocks = blocks; answer = e }) in
+    (f .secret-in, f .random-in .below)

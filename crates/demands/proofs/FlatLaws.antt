@@ -1,0 +1,50 @@
+-- Blocks of 512 bytes laid one after another: how long they are, and where each begins.
+-- Assumes nothing.
+use Prim.Native.Nat.{ℕ, zero, suc, _+_, _*_, _<_, suc-le-suc, zero-le}
+use mathlib.Core.Path.{_≡_, refl, sym, _∙_}
+use mathlib.Core.List.{List, [], _∷_, _++_, append-assoc, List·Memᴰ, List·Memᴰ·head, List·Memᴰ·tail, List·Memᴰ·not-nil, List·Memᴰ·cases-cons}
+use mathlib.Core.Logic.{⊎-elim}
+use native.Mathlib.Nat.{not-suc-le-zero, le-of-suc-le-suc}
+use native.Mathlib.Omega.{arith}
+use lib.ListN.{length, getD, drop, length-append}
+use lib.Seq.{drop-append-add}
+use Rattle.dealing.specs.Deal.{flat}
+
+-- ---- what stands in a list of blocks
+pub block-in : (bs : List (List ℕ)) (a : ℕ) → a < length bs → List·Memᴰ (getD bs a []) bs
+block-in [] a h = absurd (not-suc-le-zero h)
+block-in (b ∷ bs) zero h = List·Memᴰ·head refl
+block-in (b ∷ bs) (suc a) h = List·Memᴰ·tail (block-in bs a (le-of-suc-le-suc h))
+
+pub in-block : (bs : List (List ℕ)) (b : List ℕ) → List·Memᴰ b bs → (a : ℕ) × (a < length bs) × (getD bs a [] ≡ b)
+in-block [] b m = absurd (List·Memᴰ·not-nil m)
+in-block (c ∷ bs) b m =
+    ⊎-elim (λ (e : b ≡ c). (zero, suc-le-suc zero-le, sym e)) (λ (k : List·Memᴰ b bs). let r = in-block bs b k in (suc (r .0), suc-le-suc (r .1), r .2))
+    (List·Memᴰ·cases-cons m)
+
+-- ---- one after another
+pub flat-append : (xs ys : List (List ℕ)) → flat (xs ++ ys) ≡ flat xs ++ flat ys
+unfolding flat
+flat-append [] ys = refl
+flat-append (x ∷ xs) ys = rw (flat-append xs ys, append-assoc)
+
+-- each of them has 512 bytes
+pub record Long (bs : List (List ℕ)) : Type 0 where
+  pub long : (b : List ℕ) → List·Memᴰ b bs → length b ≡ 512
+
+rest-long : {b : List ℕ} {bs : List (List ℕ)} → Long (b ∷ bs) → Long bs
+rest-long h = record { long = λ c m. h .long c (List·Memᴰ·tail m) }
+
+pub flat-length : (bs : List (List ℕ)) → Long bs → length (flat bs) ≡ 512 * length bs
+unfolding flat
+flat-length [] h = refl
+flat-length (b ∷ bs) h = length-append b (flat bs) ∙ omega (arith, flat-length bs (rest-long h), h .long b (List·Memᴰ·head refl))
+
+pub flat-drop : (bs : List (List ℕ)) → Long bs → (a : ℕ) → a < length bs → (rest : List ℕ) × (drop (512 * a) (flat bs) ≡ getD bs a [] ++ rest)
+unfolding flat
+flat-drop [] h a u = absurd (not-suc-le-zero u)
+flat-drop (b ∷ bs) h zero u = (flat bs, refl)
+flat-drop (b ∷ bs) h (suc a) u =
+    let r = flat-drop bs (rest-long h) a (le-of-suc-le-suc u) in
+    let e : 512 * suc a ≡ length b + 512 * a = omega (arith, h .long b (List·Memᴰ·head refl)) in
+    (r .0, rw e (drop-append-add b (flat bs) (512 * a) ∙ r .1))

@@ -1,0 +1,14 @@
+pub mod LineLaws
+pub mod UnreadLaws
+pub mod Demand1
+pub mod GroupLaws
+pub mod BlockLaws
+pub mod FlatLaws
+pub mod PieceLaws
+pub mod CardLaws
+pub mod Demand2
+pub mod ReadLaws
+pub mod AnswerLaws
+pub mod HideLaws
+pub mod RowLaws
+pub mod Demand3

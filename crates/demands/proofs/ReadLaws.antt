@@ -1,0 +1,153 @@
+-- A pile made of the whole cards of a group, read block by block: it is sound, and its pieces are those that the group holds.
+-- Assumes nothing.
+use Prim.Native.Nat.{ℕ, suc, _+_, _-_, _*_, _%_, _≤_}
+use mathlib.Core.Path.{_≡_, refl, sym, ap, subst, _∙_}
+use mathlib.Core.Bool.{Bool, true, false}
+use mathlib.Core.List.{List, [], _∷_, _++_, List·Memᴰ, Memᴰ·map, Memᴰ·of-map}
+use native.Mathlib.Nat.{le-refl}
+use native.Mathlib.Omega.{arith}
+use lib.ListN.{length, getD, drop}
+use borrow.Author.Tests.{ne-eqb}
+use Rattle.answer.specs.Places.{found}
+use Rattle.answer.proofs.FirstLaws.{first-all, found-some, found-none}
+use Rattle.answer.proofs.ThoseLaws.{those-same}
+use Rattle.field.proofs.Laws.{values-at}
+use Rattle.planning.specs.Groups.{_∈_}
+use Rattle.planning.proofs.Truth.{never}
+use Rattle.block.specs.Layout.{dealOf}
+use Rattle.block.specs.Open.{TrueBlock}
+use Rattle.dealing.specs.Deal.{Deal, pieceCount, held, values, blockOf, cardBlocks}
+use Rattle.dealing.proofs.HeldLaws.{held-in}
+use Rattle.dealing.proofs.MadeLaws.{InRange, block-length}
+use Rattle.joining.specs.Pile as Pile
+use Rattle.joining.specs.Pile.{blocks, restFrom, width, pieceAt, hasPiece, placeOf, valueOf, present}
+use Rattle.joining.specs.Laws.{In, Sound}
+use Rattle.joining.proofs.SoundLaws.{place-held}
+use Rattle.demands.specs.Group.{Member, WholeCards, gathers, gathered}
+use Rattle.demands.specs.Demand2.{CardBlock}
+use Rattle.demands.proofs.GroupLaws.{gathers-by, gathers-who}
+use Rattle.demands.proofs.BlockLaws.{block-true, card-block}
+use Rattle.demands.proofs.FlatLaws.{Long, block-in, in-block, flat-length, flat-drop}
+
+-- b begins with the block of a piece that a member of the group holds
+pub record Theirs (d : Deal) (g : ℕ) (b : List ℕ) : Type 0 where
+  pub who : ℕ
+  pub which : ℕ
+  pub in-group : Member d g who
+  pub has : which ∈ held d who
+  pub says : CardBlock d who which b
+  pub is-true : TrueBlock b
+
+-- whole blocks, at most 560, each of a piece that a member holds, and each such piece in some block
+pub record Reads (d : Deal) (g : ℕ) (pile : List ℕ) : Type 0 where
+  pub whole : length pile % 512 ≡ 0
+  pub few : blocks pile ≤ 560
+  pub theirs : (a : ℕ) → In pile a → Theirs d g (restFrom pile a)
+  pub all : (i j : ℕ) → Member d g i → j ∈ held d i → (a : ℕ) × In pile a × (pieceAt pile a ≡ j)
+
+-- ---- from the bytes to the blocks
+module _ (d : Deal) (f : InRange d) (g : ℕ) (pile : List ℕ) (w : WholeCards d g pile) where
+  -- a block of the pile is that of a member's piece
+  whose : (b : List ℕ) → List·Memᴰ b (w .blocks) → (i : ℕ) × (j : ℕ) × Member d g i × (j ∈ held d i) × (b ≡ blockOf d i j)
+  unfolding cardBlocks
+  whose b m =
+      let r = w .theirs b m in
+      let s = Memᴰ·of-map (blockOf d (r .0)) (held d (r .0)) (r .2) in
+      (r .0, s .0, r .1, s .1, sym (s .2))
+
+  all-long : Long (w .blocks)
+  all-long = record {
+    long = λ b m. let r = whose b m in ap length (r .4) ∙ block-length d f (r .0) (r .2 .least) (r .2 .most) (r .1);
+  }
+
+  size : length pile ≡ 512 * length (w .blocks)
+  size = ap length (w .bytes) ∙ flat-length (w .blocks) all-long
+
+  -- block a of the pile, where it is that of piece j
+  at-block : (a i j : ℕ) → 1 ≤ a → a ≤ length (w .blocks) → Member d g i → j ∈ held d i → getD (w .blocks) (a - 1) [] ≡ blockOf d i j
+      → CardBlock d i j (restFrom pile a) × TrueBlock (restFrom pile a)
+  unfolding restFrom
+  at-block a i j l u m has e =
+      let r = flat-drop (w .blocks) all-long (a - 1) (omega arith) in
+      let q : drop (512 * (a - 1)) pile ≡ blockOf d i j ++ r .0
+      = ap (drop (512 * (a - 1))) (w .bytes) ∙ r .1 ∙ ap (λ (b : List ℕ). b ++ r .0) e in
+      rw q (card-block d f i j (m .least) (m .most) has (r .0), block-true d f i j (m .least) (m .most) has (r .0))
+
+  pub reads : Reads d g pile
+  unfolding blocks cardBlocks
+  reads = record {
+    whole = omega (arith, size);
+    few = omega (arith, size, w .few);
+    theirs = λ a h.
+        let u : a ≤ length (w .blocks) = omega (arith, size, h .1) in
+        let r = whose (getD (w .blocks) (a - 1) []) (block-in (w .blocks) (a - 1) (omega (arith, h .0))) in
+        let s = at-block a (r .0) (r .1) (h .0) u (r .2) (r .3) (r .4) in
+        record { who = r .0; which = r .1; in-group = r .2; has = r .3; says = s .0; is-true = s .1 };
+    all = λ i j m has.
+        let b = in-block (w .blocks) (blockOf d i j) (w .whole i m (blockOf d i j) (Memᴰ·map (blockOf d i) has)) in
+        let back : suc (b .0) - 1 ≡ b .0 = omega arith in
+        let s = at-block (suc (b .0)) i j (omega arith) (b .1) m has (ap (λ (x : ℕ). getD (w .blocks) x []) back ∙ b .2) in
+        (suc (b .0), (omega arith, omega (arith, size, b .1)), s .0 .piece-is);
+  }
+
+-- ---- from the blocks to what joining asks
+module _ {d : Deal} {g : ℕ} {pile : List ℕ} (r : Reads d g pile) where
+  -- a block's piece is one of 1 to k
+  pub piece-in : (a : ℕ) → In pile a → (1 ≤ pieceAt pile a) × (pieceAt pile a ≤ pieceCount d)
+  piece-in a h =
+      let t = r .theirs a h in
+      let q = held-in d (t .who) (t .which) (t .has) in
+      (omega (arith, q .0, t .says .piece-is), omega (arith, q .1, t .says .piece-is))
+
+  deal-is : (a : ℕ) → In pile a → dealOf (restFrom pile a) ≡ d .number ∷ d .policy .people ∷ pieceCount d ∷ length (d .secret) ∷ []
+  deal-is a h = let s = r .theirs a h .says in λ t. s .deal t ∷ s .people t ∷ s .pieces t ∷ s .width t ∷ []
+
+  pub pieces-are : 1 ≤ blocks pile → Pile.pieceCount pile ≡ pieceCount d
+  pieces-are some = r .theirs 1 (le-refl 1, some) .says .pieces
+
+  pub width-is : 1 ≤ blocks pile → width pile ≡ length (d .secret)
+  width-is some = r .theirs 1 (le-refl 1, some) .says .width
+
+  -- value i of block a is that of its piece
+  pub value-is : (a i : ℕ) → In pile a → 1 ≤ i → i ≤ length (d .secret) → valueOf pile a i ≡ getD (values d (pieceAt pile a)) (i - 1) 0
+  unfolding values
+  value-is a i h l u =
+      let t = r .theirs a h in
+      t .says .value i l u
+      ∙ sym (values-at (pieceCount d - 1) (d .secret) (d .random) (t .which) i l u)
+      ∙ ap (λ (j : ℕ). getD (values d j) (i - 1) 0) (sym (t .says .piece-is))
+
+  pub sound : Sound pile
+  sound = record {
+    whole = r .whole;
+    few = r .few;
+    blocks-true = record { block = λ a l h. r .theirs a (l, h) .is-true };
+    one-deal = λ a b h k. deal-is a h ∙ sym (deal-is b k);
+    agree = λ a b h k e i l u.
+        let v : i ≤ length (d .secret) = omega (arith, width-is (omega (arith, h .0, h .1))) in
+        value-is a i h l v ∙ ap (λ (j : ℕ). getD (values d j) (i - 1) 0) e ∙ sym (value-is b i k l v);
+  }
+
+  -- ---- where a piece lies
+  pub no-place : (j : ℕ) → gathers d g j ≡ false → placeOf pile j ≡ 0
+  unfolding placeOf
+  no-place j none =
+      first-all (hasPiece pile j) 1 (blocks pile + 1)
+      (λ a l u.
+      let t = r .theirs a (l, omega arith) in
+      ne-eqb (pieceAt pile a) j
+      (λ e. never none (subst (λ (x : ℕ). gathers d g x ≡ true) (sym (t .says .piece-is) ∙ e) (gathers-by d g (t .who) (t .which) (t .in-group) (t .has)))))
+
+  place-found : (j : ℕ) → 1 ≤ j → j ≤ pieceCount d → (x : Bool) → gathers d g j ≡ x → found (placeOf pile j) ≡ x
+  place-found j l u true e =
+      let m = gathers-who d g j l u e in
+      let a = r .all (m .0) j (m .1) (m .2) in
+      found-some {a = placeOf pile j} (λ z. omega (arith, place-held pile j (a .0) (a .1) (a .2)))
+  place-found j l u false e = found-none (no-place j e)
+
+  -- the pieces present are those that the group holds
+  pub present-are : 1 ≤ blocks pile → present pile ≡ gathered d g
+  unfolding present gathered
+  present-are some =
+      rw (pieces-are some)
+      (those-same (λ j. found (placeOf pile j)) (gathers d g) 1 (pieceCount d) (λ j l u. place-found j l (omega arith) (gathers d g j) refl))

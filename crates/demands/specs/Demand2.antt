@@ -1,0 +1,108 @@
+-- Demand 2: "The pieces, who holds which, and every byte of every card are those of the published scheme as document 01 fixes it."
+-- Assumes nothing.
+use Prim.Native.Nat.{ℕ, _+_, _-_, _*_, _≤_, _<_}
+use mathlib.Core.Path.{_≡_}
+use mathlib.Core.Bool.{Bool, true, false}
+use mathlib.Core.Logic.{_↔_}
+use mathlib.Core.List.{List, _++_}
+use lib.ListN.{length, take, drop}
+use Rattle.answer.specs.Outcome.{done, refused}
+use Rattle.answer.specs.Places.{at}
+use Rattle.answer.specs.Laws.{Passed}
+use Rattle.field.specs.Poly.{value, piece, One}
+use Rattle.planning.specs.Sets.{worth, member}
+use Rattle.planning.specs.Groups as planning
+use Rattle.planning.specs.Groups.{_∈_}
+use Rattle.planning.specs.Planned.{listLines, planned}
+use Rattle.planning.specs.Laws.{Suits}
+use Rattle.block.specs.Words.{wordAt, checkOf}
+use Rattle.dealing.specs.Deal.{Deal, pieceCount, held, card}
+use Rattle.dealing.specs.Dealt.{Made, dealing, dealtInto}
+use Rattle.joining.specs.Joined.{joining}
+use Rattle.joining.specs.Secret.{joinedInto}
+use Rattle.joining.specs.Laws.{Joins, Fits}
+use Rattle.demands.specs.Group.{Group, Contains, Member}
+
+-- ---- "The pieces"
+-- "An unauthorised group is maximal when adding any person not in it makes it authorised." (Authorised: it contains a required set.)
+pub record Maximal (d : Deal) (g : ℕ) : Type 0 where
+  pub group : Group d g
+  pub unauthorised : ¬ Contains d g
+  pub adding : (i : ℕ) → 1 ≤ i → i ≤ d .policy .people → member i g ≡ false → Contains d (g + worth i)
+
+-- the group of piece j
+abbrev pub groupOf : Deal → ℕ → ℕ
+groupOf d j = planning.groupOf (d .policy .people) (d .policy .required) j
+
+-- "Piece j belongs to the j-th maximal unauthorised group in rising order of the set's number; k is how many there are."
+abbrev pub ThePieces : Type 0
+ThePieces = (d : Deal)
+    → ((j : ℕ) → 1 ≤ j → j ≤ pieceCount d → Maximal d (groupOf d j))
+    × ((g : ℕ) → Maximal d g → (j : ℕ) × (1 ≤ j) × (j ≤ pieceCount d) × (groupOf d j ≡ g))
+    × ((i j : ℕ) → 1 ≤ i → i < j → j ≤ pieceCount d → groupOf d i < groupOf d j)
+
+-- ---- "who holds which"
+-- "A person holds exactly the pieces whose group does not contain that person": in rising number.
+abbrev pub WhoHolds : Type 0
+WhoHolds = (d : Deal) (i : ℕ)
+    → ((j : ℕ) → (j ∈ held d i) ↔ ((1 ≤ j) × (j ≤ pieceCount d) × (member i (groupOf d j) ≡ false)))
+    × ((a b : ℕ) → 1 ≤ a → a < b → b ≤ length (held d i) → at (held d i) a < at (held d i) b)
+
+-- Source 000's Theorem 1: a group contains a required set exactly when its members together hold every piece.
+abbrev pub WhoOpens : Type 0
+WhoOpens = (d : Deal) → Made d → (g : ℕ) → Group d g
+    → Contains d g ↔ ((j : ℕ) → 1 ≤ j → j ≤ pieceCount d → (i : ℕ) × Member d g i × (j ∈ held d i))
+
+-- ---- "every byte of every card"
+-- "k−1 coefficients a1 to a(k−1), taken in order from the lent randomness: those of word 1 first, then word 2": those of word i
+abbrev pub coefficients : Deal → ℕ → List ℕ
+coefficients d i = take (pieceCount d - 1) (drop ((i - 1) * (pieceCount d - 1)) (d .random))
+
+-- the block of piece j on the holder's card, at the front of b: the table of "The card block", word by word; `piece` is the polynomial's
+-- value at j
+pub record CardBlock (d : Deal) (holder j : ℕ) (b : List ℕ) : Type 0 where
+  pub mark : wordAt b 1 ≡ 1987
+  pub deal : wordAt b 2 ≡ d .number
+  pub holder-is : wordAt b 3 ≡ holder
+  pub people : wordAt b 4 ≡ d .policy .people
+  pub pieces : wordAt b 5 ≡ pieceCount d
+  pub width : wordAt b 6 ≡ length (d .secret)
+  pub piece-is : wordAt b 7 ≡ j
+  pub value : (i : ℕ) → 1 ≤ i → i ≤ length (d .secret) → wordAt b (7 + i) ≡ piece (at (d .secret) i) (coefficients d i) j
+  pub zeros : (i : ℕ) → 8 + length (d .secret) ≤ i → i ≤ 255 → wordAt b i ≡ 0
+  pub check : wordAt b 256 ≡ checkOf b
+
+-- "A card is one block of 512 bytes for each piece held, in rising piece number", and dealing writes it, and nothing else, over the front of
+-- the lent output.
+abbrev pub EveryByte : Type 0
+EveryByte = (d : Deal) (holder : ℕ) (out : List ℕ) (blocks : ℕ) → dealing d holder (length out) ≡ done blocks
+    → (blocks ≡ length (held d holder))
+    × (length (card d holder) ≡ 512 * blocks)
+    × ((a : ℕ) → 1 ≤ a → a ≤ blocks → CardBlock d holder (at (held d holder) a) (drop (512 * (a - 1)) (card d holder)))
+    × (dealtInto d holder out ≡ card d holder ++ drop (512 * blocks) out)
+
+-- ---- "Lists are refused as clashing exactly when, the earlier checks being passed, no family of groups that grows with its members fits
+-- both lists."
+-- planning answers CLASH, at some two places
+abbrev pub Clashes : ℕ → List ℕ → List ℕ → Type 0
+Clashes n required forbidden = (a : ℕ) × (b : ℕ) × (planned n required forbidden ≡ refused 6 a b)
+
+-- The earlier checks are 1 to 5; `Suits` is that a family fits both lists and grows. Where CLASH is given, none at all does; where it is not,
+-- one does, and it can be computed.
+abbrev pub ClashExactly : Type 1
+ClashExactly = (n : ℕ) (required forbidden : List ℕ) → Passed (listLines n required forbidden)
+    → (Clashes n required forbidden ↔ ((F : ℕ → Bool) → Suits n required forbidden (λ g. F g ≡ true) → ⊥))
+    × (Clashes n required forbidden → (F : ℕ → Type 0) → Suits n required forbidden F → ⊥)
+    × (¬ Clashes n required forbidden → (F : ℕ → Bool) × Suits n required forbidden (λ g. F g ≡ true))
+
+-- ---- "Joining gives the secret that those pieces define, or refuses."
+-- It gives a result exactly for a pile that joins: sound, with a block for each piece of 1 to k, and room. Demand 1 has the refusals.
+abbrev pub JoinsExactly : Type 0
+JoinsExactly = (pile : List ℕ) (room w : ℕ) → (joining pile room ≡ done w) ↔ Joins pile room w
+
+-- The result's word i is "the value at 0 of the one polynomial of degree below k through (1, piece 1) to (k, piece k)", each piece as the
+-- pile has it; what stands behind the w words stays.
+abbrev pub JoinGives : Type 0
+JoinGives = (pile out : List ℕ) (w : ℕ) → joining pile (length out) ≡ done w
+    → ((i : ℕ) → 1 ≤ i → i ≤ w → (cs : List ℕ) × One (Fits pile i) cs × (at (joinedInto pile out) i ≡ value cs 0))
+    × (drop w (joinedInto pile out) ≡ drop w out)

@@ -1,0 +1,85 @@
+-- Demand 3: "Take one deal and the whole cards of a group of custodians, in any order, repeats allowed, at most 560 blocks, with room for
+-- the secret." One deal is one of which some card was dealt (`Made`). Assumes nothing.
+use Prim.Native.Nat.{ℕ, zero, suc, _*_, _≤_}
+use mathlib.Core.Path.{_≡_}
+use mathlib.Core.List.{List, _++_}
+use lib.ListN.{length, drop}
+use Rattle.answer.specs.Outcome.{Outcome, done, refused}
+use Rattle.field.specs.Poly.{Below}
+use Rattle.field.specs.Pieces.{Random, Matched}
+use Rattle.planning.specs.Groups.{_∈_}
+use Rattle.dealing.specs.Deal.{Deal, again, pieceCount, card}
+use Rattle.dealing.specs.Dealt.{Made, dealing, dealtInto}
+use Rattle.joining.specs.Joined.{joining}
+use Rattle.joining.specs.Secret.{joinedInto}
+use Rattle.demands.specs.Group.{Group, Contains, Member, WholeCards, cards, members, gathered}
+
+-- "If the group contains a required set, joining returns the dealt secret": the answer is w, and the secret stands in the first w words of
+-- the lent output, whose rest is as it was.
+abbrev pub Opens : Type 0
+Opens = (d : Deal) → Made d → (g : ℕ) → Group d g → Contains d g
+    → (pile : List ℕ) → WholeCards d g pile
+    → (out : List ℕ) → length (d .secret) ≤ length out
+    → (joining pile (length out) ≡ done (length (d .secret)))
+    × (joinedInto pile out ≡ d .secret ++ drop (length (d .secret)) out)
+
+-- SHORT of c distinct pieces out of k; a group that holds none has cards of no bytes, and "A pile of no blocks is SHORT with 0, 0"
+abbrev pub shortOf : ℕ → ℕ → Outcome ℕ
+shortOf zero k = refused 20 0 0
+shortOf (suc c) k = refused 20 (suc c) k
+
+-- "If not, joining answers SHORT", with the number of distinct pieces that the group holds, and k; whatever the room. The lent output is as
+-- it was.
+abbrev pub Short : Type 0
+Short = (d : Deal) → Made d → (g : ℕ) → Group d g → ¬ Contains d g
+    → (pile : List ℕ) → WholeCards d g pile
+    → (out : List ℕ)
+    → (joining pile (length out) ≡ shortOf (length (gathered d g)) (pieceCount d))
+    × (joinedInto pile out ≡ out)
+
+-- The randomness of the deal's secret and that of another, in pairs, one to one (a map and its inverse, on both sides; each keeps the count
+-- and the range), so that each member gets exactly the same card. Where the other secret is in range, dealing answers the same, and leaves
+-- the same bytes in what it was lent.
+pub record Hidden (d : Deal) (g : ℕ) (other : List ℕ) : Type 0 where
+  pub pairs : Matched (Random (length (d .secret)) (pieceCount d)) (Random (length other) (pieceCount d))
+  pub same : (random : List ℕ) → Random (length (d .secret)) (pieceCount d) random → (i : ℕ) → Member d g i
+      → card (again d other (pairs .there random)) i ≡ card (again d (d .secret) random) i
+  pub dealt : Below other → (random : List ℕ) → Random (length (d .secret)) (pieceCount d) random → (i : ℕ) → Member d g i → (out : List ℕ)
+      → (dealing (again d other (pairs .there random)) i (length out) ≡ dealing (again d (d .secret) random) i (length out))
+      × (dealtInto (again d other (pairs .there random)) i out ≡ dealtInto (again d (d .secret) random) i out)
+
+-- "If not, .. for every other secret of as many words there is randomness under which each member gets exactly the same card. That pairing
+-- of randomness with randomness is one to one."
+abbrev pub Hides : Type 0
+Hides = (d : Deal) → Made d → (g : ℕ) → Group d g → ¬ Contains d g → (other : List ℕ) → length other ≡ length (d .secret) → Hidden d g other
+
+-- Of this deal in particular: "for every other secret of as many words there is randomness under which each member gets exactly the same
+-- card".
+abbrev pub OtherRandomness : Type 0
+OtherRandomness = (d : Deal) → Made d → (g : ℕ) → Group d g → ¬ Contains d g → (other : List ℕ) → length other ≡ length (d .secret)
+    → (random : List ℕ) × Random (length other) (pieceCount d) random × ((i : ℕ) → Member d g i → card (again d other random) i ≡ card d i)
+
+-- the randomness under which the secret gives each member i the card c i
+pub record GivesCards (d : Deal) (g : ℕ) (c : ℕ → List ℕ) (secret random : List ℕ) : Type 0 where
+  pub lent : Random (length secret) (pieceCount d) random
+  pub cards-are : (i : ℕ) → Member d g i → card (again d secret random) i ≡ c i
+
+-- "so with even randomness the cards favour no secret." Even randomness is each of the 32749 ^ (w(k−1)) lists as likely as any other; the
+-- chance of some cards, given a secret, is then how many of those lists give them, out of all. Whatever the cards c of the members are, the
+-- lists that give them from the one secret and those that give them from the other stand in pairs, so they are equally many, and the chance
+-- is the same: seeing c makes no secret likelier against another than it was.
+abbrev pub FavoursNone : Type 0
+FavoursNone = (d : Deal) → Made d → (g : ℕ) → Group d g → ¬ Contains d g → (other : List ℕ) → length other ≡ length (d .secret)
+    → (c : ℕ → List ℕ) → Matched (GivesCards d g c (d .secret)) (GivesCards d g c other)
+
+-- Cards laid one after another, each member's at least once and nobody else's, at most 560 blocks, are such a pile.
+abbrev pub InARow : Type 0
+InARow = (d : Deal) → Made d → (g : ℕ) (holders : List ℕ)
+    → ((i : ℕ) → i ∈ holders → Member d g i)
+    → ((i : ℕ) → Member d g i → i ∈ holders)
+    → length (cards d holders) ≤ 512 * 560
+    → WholeCards d g (cards d holders)
+
+-- Each member's card once is always such a pile: no group of any deal has more than 560 blocks.
+abbrev pub OnceEach : Type 0
+OnceEach = (d : Deal) → Made d → (g : ℕ) → WholeCards d g (cards d (members d g))

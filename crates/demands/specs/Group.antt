@@ -1,0 +1,52 @@
+-- A group of a deal's people, a pile made of the whole cards of its members, and the pieces that they hold.
+-- Assumes nothing.
+use Prim.Native.Nat.{ℕ, _^_, _≤_, _<_}
+use mathlib.Core.Path.{_≡_}
+use mathlib.Core.Bool.{Bool, true}
+use mathlib.Core.List.{List, map, List·Memᴰ}
+use lib.ListN.{length}
+use Rattle.answer.specs.Places.{those}
+use Rattle.planning.specs.Sets.{member, inside}
+use Rattle.planning.specs.Groups.{_∈_, some, holds}
+use Rattle.dealing.specs.Deal.{Deal, pieceCount, cardBlocks, flat, card}
+
+-- g is a group of the deal's people: it names no person above n
+abbrev pub Group : Deal → ℕ → Type 0
+Group d g = g < 2 ^ d .policy .people
+
+-- "the group contains a required set"
+pub record Contains (d : Deal) (g : ℕ) : Type 0 where
+  pub set : ℕ
+  pub required : set ∈ d .policy .required
+  pub within : inside set g ≡ true
+
+-- person i is one of the group
+pub record Member (d : Deal) (g i : ℕ) : Type 0 where
+  pub least : 1 ≤ i
+  pub most : i ≤ d .policy .people
+  pub among : member i g ≡ true
+
+-- The pile is made of the whole cards of the group: blocks one after another, at most 560, each a block of some member's card, and each
+-- block of each member's card among them; "in any order, repeats allowed". (The blocks, and not only the cards, may be in any order.)
+pub record WholeCards (d : Deal) (g : ℕ) (pile : List ℕ) : Type 0 where
+  pub blocks : List (List ℕ)
+  pub bytes : pile ≡ flat blocks
+  pub few : length blocks ≤ 560
+  pub theirs : (b : List ℕ) → List·Memᴰ b blocks → (i : ℕ) × Member d g i × List·Memᴰ b (cardBlocks d i)
+  pub whole : (i : ℕ) → Member d g i → (b : List ℕ) → List·Memᴰ b (cardBlocks d i) → List·Memᴰ b blocks
+
+-- the cards of these holders, one after another
+unfoldable pub cards : Deal → List ℕ → List ℕ
+cards d holders = flat (map (card d) holders)
+
+-- the members of the group, in rising number
+unfoldable pub members : Deal → ℕ → List ℕ
+members d g = those (λ i. member i g) 1 (d .policy .people)
+
+-- some member of the group holds piece j
+unfoldable pub gathers : Deal → ℕ → ℕ → Bool
+gathers d g j = some (λ i. holds (d .policy .people) (d .policy .required) i j) (members d g)
+
+-- the distinct pieces that the group holds, in rising number
+unfoldable pub gathered : Deal → ℕ → List ℕ
+gathered d g = those (gathers d g) 1 (pieceCount d)

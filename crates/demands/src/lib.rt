@@ -1,0 +1,1 @@
+// The customer's demands as theorems over the rooms below: statements in specs/, proofs in proofs/, and no function.
