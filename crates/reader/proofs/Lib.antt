@@ -1,0 +1,4 @@
+pub mod Local
+pub mod SeeingLaws
+pub mod ReadingLaws
+pub mod Laws

@@ -1,0 +1,21 @@
+-- `reader::after` meets its contract: by whether a whole block is left. Assumes nothing.
+use mathlib.Core.Path.{sym}
+use Rattle.joining.specs.Pile.{blocks}
+use Rattle.reader.proofs.SeeingLaws.{after-block, after-stays}
+use borrow.Author.Needs.{needs}
+use Rattle.reader.proofs.after.Statement.{statement}
+use Rattle.reader.proofs.after.Tie as tie
+
+add-result : tie.Need-add-result
+add-result c = search needs
+
+returns : tie.Need-returns
+unfolding blocks
+returns c = sym (after-block _ _ (c .if1 .taken))
+
+returns-2 : tie.Need-returns-2
+unfolding blocks
+returns-2 c = sym (after-stays _ _ (c .if1 .left))
+
+pub after-spec : {M : Type 1} → statement M
+after-spec = tie.close (tie.spec add-result returns returns-2)

@@ -1,0 +1,67 @@
+-- `reader::read_all` meets its contract. The invariant: the blocks after the passed ones are still to speak. Assumes nothing.
+use denote.Ref.{now}
+use mathlib.Core.Path.{sym, ap, _∙_}
+use Prim.Native.Nat.{_-_}
+use Rattle.joining.specs.Pile.{blocks}
+use Rattle.reader.specs.Seeing.{sight}
+use Rattle.reader.proofs.ReadingLaws.{Ahead, ahead-start, ahead-on, ahead-less, refused-at, ended-at}
+use borrow.Author.Needs.{needs}
+use Rattle.reader.proofs.read_all.Statement.{statement}
+use Rattle.reader.proofs.read_all.Tie as tie
+
+abbrev Inv-loop : tie.InvT-loop
+Inv-loop pile passed₀ passed = Ahead pile passed
+
+abbrev μ-loop : tie.MeasureT-loop
+μ-loop pile passed₀ passed = blocks pile - passed
+
+loop-holds : tie.Need-loop-holds Inv-loop μ-loop
+loop-holds c = ahead-start (now (c .before .args .pile))
+
+read-at-requires : tie.Need-read-at-requires Inv-loop μ-loop
+read-at-requires c κs = search needs
+
+enum-told : tie.Need-enum-told Inv-loop μ-loop
+enum-told c = search needs
+
+loop-less : tie.Need-loop-less Inv-loop μ-loop
+loop-less c =
+    let k = c .before .before in
+    rw (k .read-at .ensures .1) (ahead-less _ _ (sym (ap sight (c .enum-told .given .1)) ∙ k .read-at .ensures .0))
+
+loop-again : tie.Need-loop-again Inv-loop μ-loop
+loop-again c =
+    let k = c .before .before in
+    rw (k .read-at .ensures .1) (ahead-on _ _ (k .before .loop .inv) (sym (ap sight (c .enum-told .given .1)) ∙ k .read-at .ensures .0))
+
+enum-known-seen : tie.Need-enum-known-seen Inv-loop μ-loop
+enum-known-seen c = search needs
+
+returns : tie.Need-returns Inv-loop μ-loop
+returns c =
+    let k = c .before .before .before in
+    refused-at _ _ _ _ _ (k .before .loop .inv) (sym (ap sight (c .before .seen .given .1)) ∙ k .read-at .ensures .0)
+
+enum-told-2 : tie.Need-enum-told-2 Inv-loop μ-loop
+enum-told-2 c = search needs
+
+returns-2 : tie.Need-returns-2 Inv-loop μ-loop
+returns-2 c =
+    let k = c .before .before in
+    ended-at _ _ (k .before .loop .inv) (sym (ap sight (c .enum-told2 .given .1)) ∙ k .read-at .ensures .0)
+
+pub read-all-spec : {M : Type 1} → statement M
+read-all-spec =
+    tie.close
+    (tie.spec
+    Inv-loop
+    μ-loop
+    loop-holds
+    read-at-requires
+    enum-told
+    loop-less
+    loop-again
+    enum-known-seen
+    returns
+    enum-told-2
+    returns-2)

@@ -1,0 +1,102 @@
+-- `reader::values_of` meets its contract: the part from block a on, and the value bytes within it; and where the part points.
+-- Assumes nothing.
+use denote.Ref.{now}
+use mathlib.Core.Path.{_≡_, sym, ap, _∙_}
+use Prim.Native.Nat.{ℕ, _+_, _-_, _*_}
+use native.Mathlib.Omega.{arith}
+use Rattle.joining.specs.Pile.{blocks, restFrom}
+use Rattle.joining.proofs.PileLaws.{part-rest}
+use Rattle.block.specs.Open.{valueBytes, valueStart}
+use Rattle.reader.proofs.SeeingLaws.{values-in, no-block, past-blocks, values-none}
+use borrow.Author.Needs.{needs}
+use Rattle.reader.proofs.values_of.Statement.{statement}
+use Rattle.reader.proofs.values_of.Tie as tie
+
+-- a part's pointer, as the borrow checker has it, and as the contract says it
+at-offset : (b o : ℕ) {n m : ℕ} → m ≡ n → _≡_ {A = ℕ × ℕ} (b, n + o) (b, o + m)
+at-offset b o {n} {m} e = let f : n + o ≡ o + m = omega arith in rw f
+
+-- a part of a part
+within : (b o n m : ℕ) {k : ℕ} → k ≡ n + m → _≡_ {A = ℕ × ℕ} (b, n + o + m) (b, o + k)
+within b o n m {k} e = let f : n + o + m ≡ o + k = omega arith in rw f
+
+sub-result : tie.Need-sub-result
+sub-result c = search needs
+
+part-result-start : tie.Need-part-result-start
+part-result-start c = search needs
+
+part-result-end : tie.Need-part-result-end
+part-result-end c = search needs
+
+returns : tie.Need-returns
+returns c =
+    let p = c .before .before .before .args .pile in
+    let r = values-none (now p) _ (no-block (now p) _ (c .before .if1 .taken)) in
+    (sym (r .0), at-offset (p .ptr .0) (p .ptr .1) (r .1))
+
+sub-result-2 : tie.Need-sub-result-2
+sub-result-2 c = search needs
+
+part-result-start-2 : tie.Need-part-result-start-2
+part-result-start-2 c = search needs
+
+part-result-end-2 : tie.Need-part-result-end-2
+part-result-end-2 c = search needs
+
+returns-2 : tie.Need-returns-2
+unfolding blocks
+returns-2 c =
+    let p = c .before .before .before .before .args .pile in
+    let r = values-none (now p) _ (past-blocks (now p) _ (c .before .if2 .taken)) in
+    (sym (r .0), at-offset (p .ptr .0) (p .ptr .1) (r .1))
+
+sub-at : tie.Need-sub-at
+sub-at c = search needs
+
+mul-at : tie.Need-mul-at
+mul-at c = search needs
+
+sub-values : tie.Need-sub-values
+sub-values c = search needs
+
+part-values-start : tie.Need-part-values-start
+part-values-start c = search needs
+
+part-values-end : tie.Need-part-values-end
+part-values-end c = search needs
+
+values-requires : tie.Need-values-requires
+values-requires c κs = search needs
+
+returns-3 : tie.Need-returns-3
+unfolding blocks restFrom
+returns-3 c =
+    let k = c .before .before in
+    let p = k .before .before .before .args .pile in
+    let a = k .before .before .before .args .a in
+    let e = part-rest (now p) (512 * (a - 1)) in
+    let r = values-in (now p) a (omega (arith, k .before .if1 .left)) (k .if2 .left) in (
+      c .values .ensures .0 ∙ ap valueBytes e ∙ sym (r .0),
+      c .values .ensures .1 ∙ within (p .ptr .0) (p .ptr .1) (512 * (a - 1)) _ (r .1 ∙ ap (λ x. 512 * (a - 1) + valueStart x) (sym e)),
+    )
+
+pub values-of-spec : {M : Type 1} → statement M
+values-of-spec =
+    tie.close
+    (tie.spec
+    sub-result
+    part-result-start
+    part-result-end
+    returns
+    sub-result-2
+    part-result-start-2
+    part-result-end-2
+    returns-2
+    sub-at
+    mul-at
+    sub-values
+    part-values-start
+    part-values-end
+    values-requires
+    returns-3)

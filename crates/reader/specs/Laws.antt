@@ -1,0 +1,69 @@
+-- The laws that the reader owes; their proofs are in proofs/Laws.antt.
+-- Assumes nothing.
+use Prim.Native.Nat.{ℕ, _+_, _*_, _%_, _≤_, _<_}
+use mathlib.Core.Path.{_≡_}
+use mathlib.Core.Logic.{_≢_}
+use mathlib.Core.List.{List, []}
+use lib.ListN.{length}
+use Rattle.answer.specs.Outcome.{done, refused}
+use Rattle.block.specs.Layout.{headerOf}
+use Rattle.block.specs.Open.{opening, valueBytes, valueStart}
+use Rattle.joining.specs.Pile.{blocks, restFrom}
+use Rattle.joining.specs.Joined.{joining}
+use Rattle.reader.specs.declared.Seen.{Seen}
+use Rattle.reader.specs.Seeing.{told, ended, sight, counted, seeing, after, valuesOf, valuesFrom, placeAfter, answerOf, reading}
+
+-- Equal outcomes, equal answers: the promise `sight r ≡ ..` leaves one possible answer.
+abbrev pub SightOne : Type 0
+SightOne = (x y : Seen) → sight x ≡ sight y → x ≡ y
+
+-- "The reader answers so for its next block, with a counted in the pile": from the front, answer a is what opening block a gives, with a
+-- replaced by the block's number.
+abbrev pub FromFront : Type 0
+FromFront = (pile : List ℕ) (a : ℕ) → 1 ≤ a → a ≤ blocks pile → answerOf pile a ≡ told (counted a (opening (restFrom pile a)))
+
+-- "With 1 to 511 bytes left it answers TORN, with none left that the pile has ended, and stays": so is every later answer.
+abbrev pub PastBlocks : Type 0
+PastBlocks = (pile : List ℕ) (c : ℕ) → blocks pile < c
+    → (length pile % 512 ≢ 0 → answerOf pile c ≡ told (refused 13 0 0))
+    × (length pile % 512 ≡ 0 → answerOf pile c ≡ ended)
+
+-- ".. and steps past it, refused or not .., and stays": at every place, of any size.
+abbrev pub OneStep : Type 0
+OneStep = (pile : List ℕ) (n : ℕ) → (n < blocks pile → after pile n ≡ n + 1) × (blocks pile ≤ n → after pile n ≡ n)
+
+-- The reader never passes the end: c answers from the front, it has passed c blocks, or all.
+abbrev pub NeverPast : Type 0
+NeverPast = (pile : List ℕ) (c : ℕ) → (c ≤ blocks pile → placeAfter pile c ≡ c) × (blocks pile ≤ c → placeAfter pile c ≡ blocks pile)
+
+-- A place past the end, which no reading from the front reaches, leaves none: the pile has ended, and the place stays.
+abbrev pub PastEnd : Type 0
+PastEnd = (pile : List ℕ) (n : ℕ) → blocks pile < n → (seeing pile n ≡ ended) × (after pile n ≡ n)
+
+-- "a second call on it hands back the 2w value bytes": after a step, those of the block passed, where they lie in the pile.
+abbrev pub ValuesPassed : Type 0
+ValuesPassed = (pile : List ℕ) (n : ℕ) → n < blocks pile
+    → (valuesOf pile (after pile n) ≡ valueBytes (restFrom pile (n + 1)))
+    × (valuesFrom pile (after pile n) ≡ 512 * n + valueStart (restFrom pile (n + 1)))
+
+-- "a refused block gives the empty part"
+abbrev pub RefusedEmpty : Type 0
+RefusedEmpty = (pile : List ℕ) (n m a b : ℕ) → n < blocks pile → seeing pile n ≡ told (refused m a b) → valuesOf pile (after pile n) ≡ []
+
+-- the refusals that the reader can give after n blocks, with their places
+pub data Refusable (n : ℕ) : ℕ → ℕ → ℕ → Type 0 where
+  by-torn : Refusable n 13 0 0
+  by-unread : Refusable n 15 (n + 1) 0
+  by-check : Refusable n 16 (n + 1) 0
+  by-header : {b : ℕ} → 1 ≤ b → b ≤ 255 → Refusable n 17 (n + 1) b
+
+-- It gives no other: TORN, or UNREAD, CHECK or HEADER of its next block.
+abbrev pub WhichRefusals : Type 0
+WhichRefusals = (pile : List ℕ) (n m a b : ℕ) → seeing pile n ≡ told (refused m a b) → Refusable n m a b
+
+-- A pile that joining accepts is read to its end with no refusal: each answer is the block's words 1 to 7, and then the pile has ended.
+abbrev pub JoinedRead : Type 0
+JoinedRead = (pile : List ℕ) (room w : ℕ) → joining pile room ≡ done w
+    → ((a : ℕ) → 1 ≤ a → a ≤ blocks pile → answerOf pile a ≡ told (done (headerOf (restFrom pile a))))
+    × ((c : ℕ) → blocks pile < c → answerOf pile c ≡ ended)
+    × (reading pile ≡ done (blocks pile))

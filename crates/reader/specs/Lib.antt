@@ -1,0 +1,2 @@
+pub mod Seeing
+pub mod Laws
