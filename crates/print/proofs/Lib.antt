@@ -1,0 +1,4 @@
+pub mod WrittenLaws
+pub mod DecimalLaws
+pub mod LineLaws
+pub mod Laws
