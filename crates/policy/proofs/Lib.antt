@@ -1,0 +1,5 @@
+pub mod LinesLaws
+pub mod ReadingLaws
+pub mod WritingLaws
+pub mod ShapeLaws
+pub mod Laws

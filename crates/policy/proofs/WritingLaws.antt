@@ -1,0 +1,159 @@
+-- Reading what was written: every line that is written from a set is one line, and says that set. A computed test of the 512 sets.
+-- Assumes nothing.
+use borrow.Author.Tests.{le-ltb, eqb-true}
+use mathlib.Core.Path.{_≡_, refl, ap}
+use mathlib.Core.Bool.{Bool, true, false, cond, _&&_, false≢true}
+use mathlib.Core.List.{List, [], _∷_, _++_, List·Memᴰ·head, List·Memᴰ·tail}
+use native.Mathlib.Omega.{arith}
+use Prim.Native.Nat.{ℕ, _+_, _-_, _≤_, _<_}
+use lib.Dec.{eqb}
+use lib.ListN.{length}
+use Rattle.answer.specs.Outcome.{done}
+use Rattle.answer.specs.Checks.{firstFail}
+use Rattle.answer.specs.Places.{those}
+use Rattle.planning.specs.Sets.{member, each}
+use Rattle.planning.proofs.Truth.{each-at, both}
+use Rattle.print.specs.Decimal.{digit, digits}
+use Rattle.print.specs.Lines.{spaced, spacedAll, feed}
+use Rattle.policy.specs.declared.Found.{Found}
+use Rattle.policy.specs.declared.Found.the-variants.{Number, Nothing}
+use Rattle.policy.specs.declared.Said.{Said}
+use Rattle.policy.specs.declared.Said.the-variants.{Need, Bar}
+use Rattle.policy.specs.Policy.{inFront, lines, begins, peopleWord, oneDigit, peopleIn, members, needs, bars, lineSays}
+use Rattle.policy.specs.Policy.{firstBad, requiredIn, forbiddenIn, readSets, readLines, readPolicy}
+use Rattle.policy.specs.Laws.{Entry, need, bar, setOf, peopleOf, writtenLine, writtenLines, writtenText, requiredAmong, forbiddenAmong, Named}
+
+-- ---- one line
+empty : List ℕ → Bool
+empty [] = true
+empty (b ∷ l) = false
+
+-- a list whose only line feed is its last byte
+isLine : List ℕ → Bool
+isLine [] = false
+isLine (b ∷ l) = cond (eqb b 10) (empty l) (isLine l)
+
+is-empty : (l : List ℕ) → empty l ≡ true → l ≡ []
+unfolding empty
+is-empty [] h = refl
+is-empty (b ∷ l) h = absurd (false≢true h)
+
+line-by : (t : Bool) (b : ℕ) (l rest : List ℕ) → (isLine l ≡ true → lines (l ++ rest) ≡ l ∷ lines rest) → cond t (empty l) (isLine l) ≡ true
+    → cond t ((b ∷ []) ∷ lines (l ++ rest)) (inFront b (lines (l ++ rest))) ≡ (b ∷ l) ∷ lines rest
+line-by true b l rest f h = rw (is-empty l h)
+line-by false b l rest f h = ap (inFront b) (f h)
+
+line-first : (l rest : List ℕ) → isLine l ≡ true → lines (l ++ rest) ≡ l ∷ lines rest
+unfolding isLine lines
+line-first [] rest h = absurd (false≢true h)
+line-first (b ∷ l) rest h = line-by (eqb b 10) b l rest (line-first l rest) h
+
+-- ---- the ten first lines and the 512 sets
+isNumber : ℕ → Found → Bool
+isNumber n (Number m) = eqb m n
+isNumber n Nothing = false
+
+number-is : (n : ℕ) (f : Found) → isNumber n f ≡ true → f ≡ Number n
+unfolding isNumber
+number-is n (Number m) h = ap Number (eqb-true m n h)
+number-is n Nothing h = absurd (false≢true h)
+
+abbrev firstOf : ℕ → List ℕ
+firstOf n = peopleWord ++ digit n ∷ feed
+
+rightFirst : ℕ → Bool
+rightFirst n = isLine (firstOf n) && isNumber n (peopleIn (firstOf n))
+
+all-first : each 10 (λ i. rightFirst (i - 1)) ≡ true
+unfolding rightFirst isLine empty isNumber each peopleIn begins oneDigit
+all-first = refl
+
+-- what stands behind the word of the line of a set
+abbrev body : ℕ → List ℕ
+body s = spacedAll (peopleOf s) ++ feed
+
+rightSet : ℕ → Bool
+rightSet s = isLine (body s) && isNumber s (members 48 0 (body s))
+
+all-sets : each 512 (λ i. rightSet (i - 1)) ≡ true
+unfolding rightSet isLine empty isNumber each members spacedAll spaced digits peopleOf those member
+all-sets = refl
+
+-- the test of every number below n
+pub below-each : (test : ℕ → Bool) (n : ℕ) → each n (λ i. test (i - 1)) ≡ true → (s : ℕ) → s < n → test s ≡ true
+below-each test n h s l =
+    let e : s + 1 - 1 ≡ s = omega arith in
+    rw e at (each-at n (λ i. test (i - 1)) h (s + 1) (omega arith) (omega arith))
+
+first-right : (n : ℕ) → n ≤ 9 → (isLine (firstOf n) ≡ true) × (peopleIn (firstOf n) ≡ Number n)
+unfolding rightFirst
+first-right n h =
+    let r = both (isLine (firstOf n)) (isNumber n (peopleIn (firstOf n))) (below-each rightFirst 10 all-first n (omega arith)) in
+    (r .0, number-is n (peopleIn (firstOf n)) (r .1))
+
+set-right : (s : ℕ) → s < 512 → (isLine (body s) ≡ true) × (members 48 0 (body s) ≡ Number s)
+unfolding rightSet
+set-right s h =
+    let r = both (isLine (body s)) (isNumber s (members 48 0 (body s))) (below-each rightSet 512 all-sets s h) in
+    (r .0, number-is s (members 48 0 (body s)) (r .1))
+
+-- ---- the line of an entry
+abbrev saidBy : Entry → Said
+saidBy (need s) = Need s
+saidBy (bar s) = Bar s
+
+entry-line : (e : Entry) → setOf e < 512 → isLine (writtenLine e) ≡ true
+unfolding writtenLine isLine
+entry-line (need s) h = set-right s h .0
+entry-line (bar s) h = set-right s h .0
+
+entry-says : (e : Entry) → setOf e < 512 → lineSays (writtenLine e) ≡ saidBy e
+unfolding writtenLine lineSays begins
+entry-says (need s) h = ap needs (set-right s h .1)
+entry-says (bar s) h = ap bars (set-right s h .1)
+
+entry-first : (e : Entry) (rest : List ℕ) → setOf e < 512 → lines (writtenLine e ++ rest) ≡ writtenLine e ∷ lines rest
+entry-first e rest h = line-first (writtenLine e) rest (entry-line e h)
+
+-- ---- all entries
+named-first : {e : Entry} {es : List Entry} → Named (e ∷ es) → (setOf e < 512) × Named es
+named-first {e} {es} n = (n .named e (List·Memᴰ·head refl), record { named = λ x m. n .named x (List·Memᴰ·tail m) })
+
+none-bad : (es : List Entry) → Named es → (i : ℕ) → firstBad i (lines (writtenLines es)) ≡ 0
+unfolding writtenLines lines firstBad
+none-bad [] n i = refl
+none-bad (need s ∷ es) n i =
+    let m = named-first n in
+    rw (entry-first (need s) (writtenLines es) (m .0), entry-says (need s) (m .0)) (none-bad es (m .1) (i + 1))
+none-bad (bar s ∷ es) n i =
+    let m = named-first n in
+    rw (entry-first (bar s) (writtenLines es) (m .0), entry-says (bar s) (m .0)) (none-bad es (m .1) (i + 1))
+
+required-again : (es : List Entry) → Named es → requiredIn (lines (writtenLines es)) ≡ requiredAmong es
+unfolding writtenLines lines requiredIn requiredAmong
+required-again [] n = refl
+required-again (need s ∷ es) n =
+    let m = named-first n in
+    rw (entry-first (need s) (writtenLines es) (m .0), entry-says (need s) (m .0)) (ap (λ (l : List ℕ). s ∷ l) (required-again es (m .1)))
+required-again (bar s ∷ es) n =
+    let m = named-first n in
+    rw (entry-first (bar s) (writtenLines es) (m .0), entry-says (bar s) (m .0)) (required-again es (m .1))
+
+forbidden-again : (es : List Entry) → Named es → forbiddenIn (lines (writtenLines es)) ≡ forbiddenAmong es
+unfolding writtenLines lines forbiddenIn forbiddenAmong
+forbidden-again [] n = refl
+forbidden-again (need s ∷ es) n =
+    let m = named-first n in
+    rw (entry-first (need s) (writtenLines es) (m .0), entry-says (need s) (m .0)) (forbidden-again es (m .1))
+forbidden-again (bar s ∷ es) n =
+    let m = named-first n in
+    rw (entry-first (bar s) (writtenLines es) (m .0), entry-says (bar s) (m .0)) (ap (λ (l : List ℕ). s ∷ l) (forbidden-again es (m .1)))
+
+-- ---- the whole text
+pub reads-written : (n : ℕ) (es : List Entry) → n ≤ 9 → Named es → length (writtenText n es) ≤ 16384
+    → readPolicy (writtenText n es) ≡ done (record { people = n; required = requiredAmong es; forbidden = forbiddenAmong es })
+unfolding readPolicy firstFail writtenText readLines readSets
+reads-written n es h m l =
+    let f = first-right n h in
+    let first : lines (firstOf n ++ writtenLines es) ≡ firstOf n ∷ lines (writtenLines es) = line-first (firstOf n) (writtenLines es) (f .0) in
+    rw (le-ltb 16384 (length (writtenText n es)) l, first, f .1, none-bad es m 2, required-again es m, forbidden-again es m)

@@ -1,0 +1,92 @@
+-- `policy::read_policy` meets its contract: a text that is too long, the first line, the lines behind it.
+-- Assumes nothing.
+use mathlib.Core.Path.{_≡_, sym, ap, subst, _∙_}
+use native.Mathlib.Omega.{arith}
+use Prim.Native.Nat.{ℕ, _≤_}
+use denote.Ref.{now}
+use lib.ListN.{length, take, drop}
+use lib.Seq.{length-take-le}
+use Rattle.policy.specs.Policy.{lines, lineLength, peopleIn, behindFirst, readSets, readPolicy, Holds}
+use Rattle.policy.proofs.LinesLaws.{lineAt, behind, behind-most}
+use Rattle.policy.proofs.ReadingLaws.{text-long, text-first}
+use borrow.Author.Needs.{needs}
+use Rattle.policy.proofs.read_policy.Statement.{statement}
+use Rattle.policy.proofs.read_policy.Tie as tie
+
+abbrev start : tie.After-line-end → tie.Start
+start c = c .before .before .before
+
+end-is : (c : tie.After-line-end) → c .line-end .result ≡ behind (now (start c .args .text)) 0
+end-is c = c .line-end .ensures
+
+end-inside : (c : tie.After-line-end) → c .line-end .result ≤ length (now (start c .args .text))
+end-inside c = omega (arith, end-is c, behind-most (now (start c .args .text)) 0 (omega arith))
+
+said : (c : tie.After-read-people) → peopleIn (lineAt (now (start (c .before .before) .args .text)) 0) ≡ c .read-people .result
+said c =
+    let text = now (start (c .before .before) .args .text) in
+    let e : lineLength text ≡ c .before .before .line-end .result = omega (arith, end-is (c .before .before)) in
+    ap (λ (k : ℕ). peopleIn (take k text)) e ∙ sym (c .read-people .ensures)
+
+text-there : (c : tie.After-read-people)
+    → let text = now (start (c .before .before) .args .text) in readPolicy text ≡ behindFirst (peopleIn (lineAt text 0)) (lines (drop (behind text 0) text))
+text-there c = text-first (now (start (c .before .before) .args .text)) (c .before .before .before .if1 .left)
+
+unreadable-requires : tie.Need-unreadable-requires
+unreadable-requires c κs = search needs
+
+returns : tie.Need-returns
+returns c = rw (text-long (now (c .before .before .before .args .text)) (c .before .if1 .taken)) (c .unreadable .ensures)
+
+line-end-requires : tie.Need-line-end-requires
+line-end-requires c κs = search needs
+
+slice-aggregate-read-people : tie.Need-slice-aggregate-read-people
+slice-aggregate-read-people c = sym (length-take-le _ _ (end-inside (c .before)))
+
+read-people-requires : tie.Need-read-people-requires
+read-people-requires c κs = search needs
+
+enum-known-people : tie.Need-enum-known-people
+enum-known-people c = search needs
+
+cast-read-sets : tie.Need-cast-read-sets
+cast-read-sets c = search needs
+
+read-sets-requires : tie.Need-read-sets-requires
+read-sets-requires c κs = end-inside (c .before .before .before .before .before)
+
+enum-told : tie.Need-enum-told
+enum-told c = search needs
+
+unreadable-requires-2 : tie.Need-unreadable-requires-2
+unreadable-requires-2 c κs = search needs
+
+returns-2 : tie.Need-returns-2
+returns-2 c =
+    let p = c .before .before .before .before in
+    let text = now (start (p .before .before) .args .text) in
+    rw (text-there p, said p, c .before .before .people .given .1)
+    (subst (λ (k : ℕ). Holds (readSets (c .before .before .people .given .0 .0) (lines (drop k text))) (c .read-sets .result)) (end-is (p .before .before)) (c .read-sets .ensures))
+
+returns-3 : tie.Need-returns-3
+returns-3 c =
+    let p = c .before .before .before in
+    rw (text-there p, said p, c .before .enum-told .given .1) (c .unreadable2 .ensures)
+
+pub read-policy-spec : {M : Type 1} → statement M
+read-policy-spec =
+    tie.close
+    (tie.spec
+    unreadable-requires
+    returns
+    line-end-requires
+    slice-aggregate-read-people
+    read-people-requires
+    enum-known-people
+    cast-read-sets
+    read-sets-requires
+    enum-told
+    unreadable-requires-2
+    returns-2
+    returns-3)

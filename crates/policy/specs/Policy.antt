@@ -1,0 +1,186 @@
+-- A policy text: document 01, "The two programs", and refusal 21.
+-- Assumes nothing.
+use mathlib.Core.Path.{_≡_}
+use mathlib.Core.Bool.{Bool, true, false, cond, _&&_}
+use mathlib.Core.List.{List, [], _∷_, _++_}
+use Prim.Native.Nat.{ℕ, suc, _+_, _-_}
+use lib.Dec.{ltb, leb, eqb}
+use lib.ListN.{length, take, drop, replicate}
+use Rattle.answer.specs.declared.Kind.the-variants.{Text}
+use Rattle.answer.specs.Outcome.{Outcome, done, refused, number, outcome}
+use Rattle.answer.specs.Checks.{line, firstFail}
+use Rattle.answer.specs.Places.{found}
+use Rattle.planning.specs.Sets.{worth}
+use Rattle.policy.specs.declared.Found.{Found}
+use Rattle.policy.specs.declared.Found.the-variants.{Number, Nothing}
+use Rattle.policy.specs.declared.Said.{Said}
+use Rattle.policy.specs.declared.Said.the-variants.{Need, Bar, Bad}
+use Rattle.policy.specs.declared.Sets.{Sets}
+use Rattle.policy.specs.declared.PolicyText.{PolicyText}
+
+-- ---- lines
+-- a byte in front of the first line
+abbrev pub inFront : ℕ → List (List ℕ) → List (List ℕ)
+inFront b [] = (b ∷ []) ∷ []
+inFront b (l ∷ ls) = (b ∷ l) ∷ ls
+
+-- the lines of a text, each with its line feed; what stands behind the last line feed is a line that lacks it
+unfoldable pub lines : List ℕ → List (List ℕ)
+lines [] = []
+lines (b ∷ text) = cond (eqb b 10) ((b ∷ []) ∷ lines text) (inFront b (lines text))
+
+-- how many bytes the first line has
+unfoldable pub lineLength : List ℕ → ℕ
+lineLength [] = 0
+lineLength (b ∷ text) = cond (eqb b 10) 1 (suc (lineLength text))
+
+-- whether a line begins with the word
+unfoldable pub begins : List ℕ → List ℕ → Bool
+begins [] line = true
+begins (w ∷ word) [] = false
+begins (w ∷ word) (b ∷ line) = cond (eqb b w) (begins word line) false
+
+-- ---- the first line
+-- `people` and a space
+abbrev pub peopleWord : List ℕ
+peopleWord = 112 ∷ 101 ∷ 111 ∷ 112 ∷ 108 ∷ 101 ∷ 32 ∷ []
+
+-- one where the test holds, the other where it does not
+abbrev pub pickFound : Bool → Found → Found → Found
+pickFound true x y = x
+pickFound false x y = y
+
+-- "one digit 0 to 9" and the line feed, and no byte more
+unfoldable pub oneDigit : List ℕ → Found
+oneDigit [] = Nothing
+oneDigit (d ∷ []) = Nothing
+oneDigit (d ∷ (b ∷ [])) = pickFound (leb 48 d && leb d 57 && eqb b 10) (Number (d - 48)) Nothing
+oneDigit (d ∷ (b ∷ (c ∷ rest))) = Nothing
+
+-- "Line 1 is `people`, a space and one digit 0 to 9": the number of people
+unfoldable pub peopleIn : List ℕ → Found
+peopleIn line = pickFound (begins peopleWord line) (oneDigit (drop 7 line)) Nothing
+
+-- ---- the other lines
+-- `need`
+abbrev pub needWord : List ℕ
+needWord = 110 ∷ 101 ∷ 101 ∷ 100 ∷ []
+
+-- `bar`
+abbrev pub barWord : List ℕ
+barWord = 98 ∷ 97 ∷ 114 ∷ []
+
+-- "strictly rising digits 1 to 9, one space before each, possibly none", and the line feed: the set of the people that they name, with
+-- those of `set`. `last` is the byte of the digit before, that of 0 before the first.
+unfoldable pub members : ℕ → ℕ → List ℕ → Found
+members last set [] = Nothing
+members last set (b ∷ []) = pickFound (eqb b 10) (Number set) Nothing
+members last set (b ∷ (d ∷ rest)) = pickFound (eqb b 32 && ltb last d && leb d 57) (members d (set + worth (d - 48)) rest) Nothing
+
+-- one where the test holds, the other where it does not
+abbrev pub pickSaid : Bool → Said → Said → Said
+pickSaid true x y = x
+pickSaid false x y = y
+
+-- a required set, where one was found
+abbrev pub needs : Found → Said
+needs (Number s) = Need s
+needs Nothing = Bad
+
+-- a forbidden set, where one was found
+abbrev pub bars : Found → Said
+bars (Number s) = Bar s
+bars Nothing = Bad
+
+-- "then lines `need` or `bar`": what such a line says
+unfoldable pub lineSays : List ℕ → Said
+lineSays line =
+    pickSaid (begins needWord line) (needs (members 48 0 (drop 4 line)))
+    (pickSaid (begins barWord line) (bars (members 48 0 (drop 3 line))) Bad)
+
+-- ---- the text
+-- what a readable text gives
+pub record Policy : Type 0 where
+  pub people : ℕ
+  pub required : List ℕ
+  pub forbidden : List ℕ
+
+-- the line is bad
+abbrev pub isBad : Said → Bool
+isBad (Need s) = false
+isBad (Bar s) = false
+isBad Bad = true
+
+-- the number of the first bad line, where the first of these lines is line i; 0: none is bad
+unfoldable pub firstBad : ℕ → List (List ℕ) → ℕ
+firstBad i [] = 0
+firstBad i (l ∷ ls) = cond (isBad (lineSays l)) i (firstBad (i + 1) ls)
+
+-- a line `need` adds its set in front of the others
+abbrev pub addNeed : Said → List ℕ → List ℕ
+addNeed (Need s) sets = s ∷ sets
+addNeed (Bar s) sets = sets
+addNeed Bad sets = sets
+
+-- a line `bar` adds its set in front of the others
+abbrev pub addBar : Said → List ℕ → List ℕ
+addBar (Need s) sets = sets
+addBar (Bar s) sets = s ∷ sets
+addBar Bad sets = sets
+
+-- the sets of the lines `need`, in order
+unfoldable pub requiredIn : List (List ℕ) → List ℕ
+requiredIn [] = []
+requiredIn (l ∷ ls) = addNeed (lineSays l) (requiredIn ls)
+
+-- the sets of the lines `bar`, in order
+unfoldable pub forbiddenIn : List (List ℕ) → List ℕ
+forbiddenIn [] = []
+forbiddenIn (l ∷ ls) = addBar (lineSays l) (forbiddenIn ls)
+
+-- the lines behind the first; "TEXT names the first bad line"
+unfoldable pub readSets : ℕ → List (List ℕ) → Outcome Policy
+readSets people ls =
+    firstFail (line Text (found (firstBad 2 ls)) (firstBad 2 ls) 0 ∷ [])
+    (done (record { people = people; required = requiredIn ls; forbidden = forbiddenIn ls }))
+
+-- the lines behind a first line that gives the people; one that does not is bad
+abbrev pub behindFirst : Found → List (List ℕ) → Outcome Policy
+behindFirst (Number people) ls = readSets people ls
+behindFirst Nothing ls = refused (number Text) 1 0
+
+-- all lines; "an empty text is TEXT, line 1"
+unfoldable pub readLines : List (List ℕ) → Outcome Policy
+readLines [] = refused (number Text) 1 0
+readLines (l ∷ ls) = behindFirst (peopleIn l) ls
+
+-- "a policy text of at most 16,384 bytes; longer is TEXT, a = 0"
+unfoldable pub readPolicy : List ℕ → Outcome Policy
+readPolicy text = firstFail (line Text (ltb 16384 (length text)) 0 0 ∷ []) (readLines (lines text))
+
+-- ---- what a call hands back
+-- the first 257 sets of a list, and zeros behind them; how many they are: a list of 257 sets is too long already
+pub record Keeps (sets : List ℕ) (kept : Sets) : Type 0 where
+  pub filled : kept .sets ≡ take 257 sets ++ replicate (257 - length sets) 0
+  pub counted : kept .count ≡ length (take 257 sets)
+
+-- the people of a readable text, or its refusal
+abbrev pub peopleOf : Outcome Policy → Outcome ℕ
+peopleOf (done p) = done (p .people)
+peopleOf (refused m a b) = refused m a b
+
+-- the required sets of a readable text; a refused text has no sets
+abbrev pub requiredOf : Outcome Policy → List ℕ
+requiredOf (done p) = p .required
+requiredOf (refused m a b) = []
+
+-- the forbidden sets of a readable text; a refused text has no sets
+abbrev pub forbiddenOf : Outcome Policy → List ℕ
+forbiddenOf (done p) = p .forbidden
+forbiddenOf (refused m a b) = []
+
+-- the value holds the outcome: people or TEXT, and the two lists
+pub record Holds (o : Outcome Policy) (held : PolicyText) : Type 0 where
+  pub says : outcome (held .answer) ≡ peopleOf o
+  pub required : Keeps (requiredOf o) (held .required)
+  pub forbidden : Keeps (forbiddenOf o) (held .forbidden)
