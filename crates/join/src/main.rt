@@ -1,0 +1,8 @@
+// The joining program: reads a pile from standard input, to its end or to 65,537 bytes, and prints its secret or its refusal.
+fn main() {
+    let mut pile = [0u8; 65537];
+    let size = io::read_full(0, &mut pile);
+    let mut out = [0u8; 128];
+    let count = joined::joined_line(&pile[..size], &mut out);
+    io::write_all(1, &out[..count]);
+}
