@@ -1,0 +1,120 @@
+//! Benchmarks: the proved library against the independent Rust, in one run, both built for release.
+//! Median of many rounds; the two take turns within a round. Buffers are not cleared between calls.
+use bench::inputs;
+use bench::reference::{self, Deal, BLOCK};
+use bench::unit;
+use std::hint::black_box;
+use std::time::Instant;
+
+const ROUNDS: usize = 41;
+
+/// Seconds for one call, over as many calls as take about two milliseconds.
+fn once(call: &mut dyn FnMut()) -> f64 {
+    let start = Instant::now();
+    call();
+    let calls = (2e-3 / start.elapsed().as_secs_f64().max(1e-8)).clamp(1.0, 1e5) as usize;
+    let start = Instant::now();
+    for _ in 0..calls {
+        call();
+    }
+    start.elapsed().as_secs_f64() / calls as f64
+}
+
+fn median(mut times: Vec<f64>) -> f64 {
+    times.sort_by(f64::total_cmp);
+    times[times.len() / 2]
+}
+
+/// One line of the table: microseconds of each, and the ratio of the medians with the middle half of the rounds' ratios.
+fn compare(name: &str, mut ours: impl FnMut(), mut theirs: impl FnMut()) {
+    let (mut a, mut b, mut ratios) = (Vec::new(), Vec::new(), Vec::new());
+    for _ in 0..ROUNDS {
+        let (x, y) = (once(&mut ours), once(&mut theirs));
+        a.push(x);
+        b.push(y);
+        ratios.push(x / y);
+    }
+    ratios.sort_by(f64::total_cmp);
+    let (low, high) = (ratios[ROUNDS / 4], ratios[ROUNDS * 3 / 4]);
+    let (a, b) = (median(a), median(b));
+    println!("| {name} | {:.2} | {:.2} | {:.2} | {low:.2} to {high:.2} |", a * 1e6, b * 1e6, a / b);
+}
+
+/// A deal of 16 words by "any so many of so many people".
+fn threshold(people: usize, least: u32) -> Deal {
+    let required: Vec<u16> = (0..1u16 << people).filter(|set| set.count_ones() == least).collect();
+    let k = reference::plan(people, &required, &[]).unwrap().len();
+    Deal {
+        people,
+        required,
+        forbidden: Vec::new(),
+        number: 7,
+        secret: (0..16).map(|i| i * 2047 % 32749).collect(),
+        random: (0..16 * (k - 1)).map(|i| (i * 7919 % 32749) as u16).collect(),
+    }
+}
+
+/// One block of each piece of a deal.
+fn pieces(d: &Deal) -> Vec<Vec<u8>> {
+    let mut blocks = inputs::blocks(d, (1 << d.people) - 1);
+    blocks.sort_by_key(|block| block[13]);
+    blocks.dedup_by_key(|block| block[13]);
+    blocks
+}
+
+fn join(name: &str, pile: &[u8]) {
+    let (mut ours, mut theirs) = ([0; 16], [0; 16]);
+    assert_eq!(unit::join(pile, &mut ours), reference::join(pile, &mut theirs));
+    assert_eq!(ours, theirs);
+    compare(
+        name,
+        || {
+            black_box(unit::join(black_box(pile), &mut ours)).ok();
+        },
+        || {
+            black_box(reference::join(black_box(pile), &mut theirs)).ok();
+        },
+    );
+}
+
+fn main() {
+    println!("| call | library, µs | Rust, µs | ratio | middle half |");
+    println!("|---|---|---|---|---|");
+    let d = threshold(8, 5);
+    let mut groups = [0; 70];
+    compare(
+        "planning any five of eight",
+        || {
+            black_box(unit::plan(8, black_box(&d.required), &[], &mut groups)).ok();
+        },
+        || {
+            black_box(reference::plan(8, black_box(&d.required), &[])).ok();
+        },
+    );
+    let (mut ours, mut theirs) = (vec![0; 35 * BLOCK], vec![0; 35 * BLOCK]);
+    compare(
+        "dealing a card of 35 blocks of 16 words",
+        || {
+            black_box(unit::deal(black_box(&d), 3, &mut ours)).ok();
+        },
+        || {
+            black_box(reference::deal(black_box(&d), 3, &mut theirs)).ok();
+        },
+    );
+    assert_eq!(ours, theirs);
+    let all = pieces(&d);
+    let many: Vec<u8> = (0..560).flat_map(|i| all[i % 70].clone()).collect();
+    join("joining 560 blocks of 70 pieces", &many);
+    for blocks in [70, 140, 280] {
+        join(&format!("joining {blocks} blocks of 70 pieces"), &many[..blocks * BLOCK]);
+    }
+    for (people, least) in [(1, 1), (3, 2), (4, 3), (5, 3), (6, 4), (7, 4)] {
+        let d = threshold(people, least);
+        let pile = pieces(&d).concat();
+        join(&format!("joining {} blocks of {0} pieces", pile.len() / BLOCK), &pile);
+    }
+    let d = threshold(6, 4);
+    let few = pieces(&d);
+    let many: Vec<u8> = (0..560).flat_map(|i| few[i % few.len()].clone()).collect();
+    join("joining 560 blocks of 20 pieces", &many);
+}

@@ -1,0 +1,8 @@
+//! An implementation of document 01 that is independent of the proved one, the proved library behind safe functions, and what
+//! tests and benchmarks share.
+
+pub mod cards;
+pub mod inputs;
+pub mod numbers;
+pub mod reference;
+pub mod unit;

@@ -1,0 +1,368 @@
+//! Document 01 written a second time, from its text alone: nothing here is shared with the proved code.
+//! Where the proved code and this disagree, document 01 decides.
+
+/// The prime of the build.
+pub const P: u64 = 32749;
+
+/// A card block has 512 bytes.
+pub const BLOCK: usize = 512;
+
+/// A refusal: its number and its two places.
+#[derive(Clone, Copy, Debug, PartialEq, Eq)]
+pub struct Refusal {
+    pub number: usize,
+    pub a: usize,
+    pub b: usize,
+}
+
+fn refuse<T>(number: usize, a: usize, b: usize) -> Result<T, Refusal> {
+    Err(Refusal { number, a, b })
+}
+
+/// Planning: the group of each piece, in rising order.
+pub fn plan(people: usize, required: &[u16], forbidden: &[u16]) -> Result<Vec<u16>, Refusal> {
+    if people == 0 || people > 8 {
+        return refuse(1, 0, 0);
+    }
+    for (list, sets) in [(1, required), (2, forbidden)] {
+        if sets.len() > 256 {
+            return refuse(2, list, 0);
+        }
+    }
+    for (list, sets) in [(1, required), (2, forbidden)] {
+        if let Some(at) = sets.iter().position(|set| set >> people != 0) {
+            return refuse(3, list, at + 1);
+        }
+    }
+    if required.is_empty() {
+        return refuse(4, 0, 0);
+    }
+    if let Some(at) = required.iter().position(|set| *set == 0) {
+        return refuse(5, at + 1, 0);
+    }
+    for (r, need) in required.iter().enumerate() {
+        for (f, bar) in forbidden.iter().enumerate() {
+            if need & !bar == 0 {
+                return refuse(6, r + 1, f + 1);
+            }
+        }
+    }
+    let all = 1usize << people;
+    let authorised: Vec<bool> = (0..all).map(|group| required.iter().any(|need| *need as usize & !group == 0)).collect();
+    let maximal = |group: &usize| {
+        !authorised[*group] && (0..people).all(|person| group >> person & 1 == 1 || authorised[group | 1 << person])
+    };
+    let groups: Vec<u16> = (0..all).filter(maximal).map(|group| group as u16).collect();
+    if groups.len() > 70 {
+        return refuse(7, 0, 0);
+    }
+    Ok(groups)
+}
+
+/// The pieces that a holder has, from 1.
+pub fn held(groups: &[u16], holder: usize) -> Vec<usize> {
+    (1..=groups.len()).filter(|j| groups[j - 1] >> (holder - 1) & 1 == 0).collect()
+}
+
+/// Piece j of a word: d + a1·j + a2·j² + .. mod p.
+pub fn piece(word: u16, coefficients: &[u16], j: usize) -> u16 {
+    let mut value = 0;
+    for coefficient in coefficients.iter().rev() {
+        value = (value * j as u64 + *coefficient as u64) % P;
+    }
+    ((value * j as u64 + word as u64) % P) as u16
+}
+
+/// The 256 words of a block from its first seven and its values.
+pub fn block_words(head: [u16; 7], values: &[u16]) -> [u16; 256] {
+    let mut words = [0; 256];
+    words[..7].copy_from_slice(&head);
+    words[7..7 + values.len()].copy_from_slice(values);
+    words[255] = check(&words);
+    words
+}
+
+/// The sum of i times word i, i from 1 to 255, mod p.
+pub fn check(words: &[u16; 256]) -> u16 {
+    let sum: u64 = (1..256).map(|i| i as u64 * words[i - 1] as u64).sum();
+    (sum % P) as u16
+}
+
+/// The words of a block's bytes, and back.
+pub fn words_of(block: &[u8]) -> [u16; 256] {
+    let mut words = [0; 256];
+    for (word, bytes) in words.iter_mut().zip(block.chunks_exact(2)) {
+        *word = u16::from_be_bytes([bytes[0], bytes[1]]);
+    }
+    words
+}
+
+pub fn bytes_of(words: &[u16; 256]) -> [u8; 512] {
+    let mut bytes = [0; 512];
+    for (bytes, word) in bytes.chunks_exact_mut(2).zip(words) {
+        bytes.copy_from_slice(&word.to_be_bytes());
+    }
+    bytes
+}
+
+/// The arguments of a deal, but for the holder and the output.
+#[derive(Clone, Debug)]
+pub struct Deal {
+    pub people: usize,
+    pub required: Vec<u16>,
+    pub forbidden: Vec<u16>,
+    pub number: usize,
+    pub secret: Vec<u16>,
+    pub random: Vec<u16>,
+}
+
+/// Dealing: one holder's card into the front of `out`; the number of blocks.
+pub fn deal(d: &Deal, holder: usize, out: &mut [u8]) -> Result<usize, Refusal> {
+    let groups = plan(d.people, &d.required, &d.forbidden)?;
+    let k = groups.len();
+    if d.number == 0 || d.number > 32748 {
+        return refuse(8, 0, 0);
+    }
+    if holder == 0 || holder > d.people {
+        return refuse(9, 0, 0);
+    }
+    let w = d.secret.len();
+    if w == 0 || w > 16 {
+        return refuse(10, 0, 0);
+    }
+    if let Some(at) = d.secret.iter().position(|word| *word > 32748) {
+        return refuse(10, at + 1, 0);
+    }
+    if d.random.len() != w * (k - 1) {
+        return refuse(11, 0, 0);
+    }
+    if let Some(at) = d.random.iter().position(|word| *word > 32748) {
+        return refuse(11, at + 1, 0);
+    }
+    let pieces = held(&groups, holder);
+    if out.len() < BLOCK * pieces.len() {
+        return refuse(12, pieces.len(), 0);
+    }
+    for (block, j) in out.chunks_exact_mut(BLOCK).zip(&pieces) {
+        let mut values = [0; 16];
+        for i in 0..w {
+            values[i] = piece(d.secret[i], &d.random[i * (k - 1)..(i + 1) * (k - 1)], *j);
+        }
+        let head = [1987, d.number as u16, holder as u16, d.people as u16, k as u16, w as u16, *j as u16];
+        block.copy_from_slice(&bytes_of(&block_words(head, &values[..w])));
+    }
+    Ok(pieces.len())
+}
+
+/// The first word of 1 to 255 that breaks the layout.
+fn wrong(words: &[u16; 256]) -> Option<usize> {
+    let word = |i: usize| words[i - 1];
+    let right = [
+        word(1) == 1987,
+        word(2) != 0,
+        (1..=8).contains(&word(3)),
+        (1..=8).contains(&word(4)) && word(4) >= word(3),
+        (1..=70).contains(&word(5)),
+        (1..=16).contains(&word(6)),
+        1 <= word(7) && word(7) <= word(5),
+    ];
+    if let Some(at) = right.iter().position(|right| !right) {
+        return Some(at + 1);
+    }
+    (8 + word(6) as usize..=255).find(|i| word(*i) != 0)
+}
+
+/// Refusals 15, 16 and 17 of block a.
+fn check_block(words: &[u16; 256], a: usize) -> Result<(), Refusal> {
+    if words.iter().any(|word| *word > 32748) {
+        return refuse(15, a, 0);
+    }
+    if check(words) != words[255] {
+        return refuse(16, a, 0);
+    }
+    match wrong(words) {
+        Some(at) => refuse(17, a, at),
+        None => Ok(()),
+    }
+}
+
+/// Opening the first block: its words 1 to 7.
+pub fn open(pile: &[u8]) -> Result<[u16; 7], Refusal> {
+    if pile.len() < BLOCK {
+        return refuse(13, 0, 0);
+    }
+    let words = words_of(&pile[..BLOCK]);
+    check_block(&words, 1)?;
+    let mut head = [0; 7];
+    head.copy_from_slice(&words[..7]);
+    Ok(head)
+}
+
+fn power(base: u64, mut exponent: u64) -> u64 {
+    let (mut base, mut result) = (base % P, 1);
+    while exponent > 0 {
+        if exponent & 1 == 1 {
+            result = result * base % P;
+        }
+        base = base * base % P;
+        exponent >>= 1;
+    }
+    result
+}
+
+/// The weight of each piece 1 to k in the value at 0 of the polynomial through them: Lagrange, inverses by Fermat.
+pub fn weights(k: usize) -> Vec<u64> {
+    (1..=k as u64)
+        .map(|j| {
+            let (mut above, mut below) = (1, 1);
+            for i in (1..=k as u64).filter(|i| *i != j) {
+                above = above * i % P;
+                below = below * (i + P - j) % P;
+            }
+            above * power(below, P - 2) % P
+        })
+        .collect()
+}
+
+/// Joining: the secret into the front of `out`; the number of its words.
+pub fn join(pile: &[u8], out: &mut [u16]) -> Result<usize, Refusal> {
+    if pile.len() % BLOCK != 0 {
+        return refuse(13, 0, 0);
+    }
+    if pile.len() / BLOCK > 560 {
+        return refuse(14, 0, 0);
+    }
+    let mut blocks: Vec<[u16; 23]> = Vec::with_capacity(pile.len() / BLOCK);
+    for (at, block) in pile.chunks_exact(BLOCK).enumerate() {
+        let words = words_of(block);
+        check_block(&words, at + 1)?;
+        let mut front = [0; 23];
+        front.copy_from_slice(&words[..23]);
+        blocks.push(front);
+    }
+    if blocks.is_empty() {
+        return refuse(20, 0, 0);
+    }
+    let deal = |block: &[u16; 23]| [block[1], block[3], block[4], block[5]];
+    if let Some(at) = blocks.iter().position(|block| deal(block) != deal(&blocks[0])) {
+        return refuse(18, at + 1, 0);
+    }
+    let (k, w) = (blocks[0][4] as usize, blocks[0][5] as usize);
+    let values = |block: &[u16; 23]| <[u16; 16]>::try_from(&block[7..23]).unwrap();
+    let mut earlier: Vec<Vec<usize>> = vec![Vec::new(); k];
+    for (at, block) in blocks.iter().enumerate() {
+        let same = &mut earlier[block[6] as usize - 1];
+        if let Some(other) = same.iter().find(|other| values(&blocks[**other])[..w] != values(block)[..w]) {
+            return refuse(19, at + 1, other + 1);
+        }
+        same.push(at);
+    }
+    let present = earlier.iter().filter(|blocks| !blocks.is_empty()).count();
+    if present < k {
+        return refuse(20, present, k);
+    }
+    if out.len() < w {
+        return refuse(12, w, 0);
+    }
+    let weights = weights(k);
+    for i in 0..w {
+        let sum: u64 = (0..k).map(|j| weights[j] * blocks[earlier[j][0]][7 + i] as u64).sum();
+        out[i] = (sum % P) as u16;
+    }
+    Ok(w)
+}
+
+fn refused(r: Refusal) -> Vec<u8> {
+    format!("refused {} {} {}\n", r.number, r.a, r.b).into_bytes()
+}
+
+/// A line `need` or `bar`: the set of its digits.
+fn set_of(digits: &[u8]) -> Option<u16> {
+    let mut set = 0;
+    let mut last = b'0';
+    for pair in digits.chunks(2) {
+        match pair {
+            [b' ', digit @ b'1'..=b'9'] if *digit > last => {
+                set |= 1 << (digit - b'1');
+                last = *digit;
+            }
+            _ => return None,
+        }
+    }
+    Some(set)
+}
+
+/// A policy text: people and the two lists, or the first bad line.
+pub fn read_policy(text: &[u8]) -> Result<(usize, Vec<u16>, Vec<u16>), Refusal> {
+    if text.len() > 16384 {
+        return refuse(21, 0, 0);
+    }
+    let (mut people, mut required, mut forbidden) = (0, Vec::new(), Vec::new());
+    let mut lines: Vec<&[u8]> = text.split(|byte| *byte == b'\n').collect();
+    let torn = lines.pop().unwrap();
+    for (at, line) in lines.iter().enumerate() {
+        if at == 0 {
+            match line.strip_prefix(b"people ") {
+                Some([digit @ b'0'..=b'9']) => people = (digit - b'0') as usize,
+                _ => return refuse(21, 1, 0),
+            }
+            continue;
+        }
+        let (list, rest) = match (line.strip_prefix(b"need"), line.strip_prefix(b"bar")) {
+            (Some(rest), _) => (&mut required, rest),
+            (_, Some(rest)) => (&mut forbidden, rest),
+            _ => return refuse(21, at + 1, 0),
+        };
+        match set_of(rest) {
+            Some(set) => list.push(set),
+            None => return refuse(21, at + 1, 0),
+        }
+    }
+    if !torn.is_empty() || lines.is_empty() {
+        return refuse(21, lines.len() + 1, 0);
+    }
+    Ok((people, required, forbidden))
+}
+
+/// What the listing program prints.
+pub fn listing(text: &[u8]) -> Vec<u8> {
+    let (people, required, forbidden) = match read_policy(text) {
+        Ok(policy) => policy,
+        Err(r) => return refused(r),
+    };
+    let groups = match plan(people, &required, &forbidden) {
+        Ok(groups) => groups,
+        Err(r) => return refused(r),
+    };
+    let mut out = format!("people {} pieces {}\n", people, groups.len());
+    for (j, group) in groups.iter().enumerate() {
+        out += &format!("piece {} missing", j + 1);
+        for person in (1..=people).filter(|person| group >> (person - 1) & 1 == 1) {
+            out += &format!(" {person}");
+        }
+        out += "\n";
+    }
+    for holder in 1..=people {
+        out += &format!("holder {holder} has");
+        for j in held(&groups, holder) {
+            out += &format!(" {j}");
+        }
+        out += "\n";
+    }
+    out.into_bytes()
+}
+
+/// What the joining program prints.
+pub fn joining(pile: &[u8]) -> Vec<u8> {
+    if pile.len() > 65536 {
+        return refused(Refusal { number: 14, a: 0, b: 0 });
+    }
+    let mut out = [0; 16];
+    match join(pile, &mut out) {
+        Ok(w) => {
+            let words: Vec<String> = out[..w].iter().map(|word| format!(" {word}")).collect();
+            format!("secret{}\n", words.concat()).into_bytes()
+        }
+        Err(r) => refused(r),
+    }
+}

@@ -1,0 +1,62 @@
+//! The independent implementation on the worked cases of document 01, so that what the library is held to is itself held to the text.
+use bench::reference::*;
+
+fn p11() -> Deal {
+    Deal { people: 4, required: vec![3, 6, 12], forbidden: vec![9], number: 7, secret: vec![1234], random: vec![5, 7] }
+}
+
+fn card(d: &Deal, holder: usize) -> Vec<u8> {
+    let mut out = vec![0; 36 * BLOCK];
+    let blocks = deal(d, holder, &mut out).unwrap();
+    out.truncate(blocks * BLOCK);
+    out
+}
+
+#[test]
+fn p1_listing() {
+    let text = b"people 4\nneed 1 2\nneed 2 3\nneed 3 4\nbar 1 4\n";
+    let listed = "people 4 pieces 3\npiece 1 missing 1 3\npiece 2 missing 1 4\npiece 3 missing 2 4\nholder 1 has 3\nholder 2 has 1 2\nholder 3 has 2 3\nholder 4 has 1\n";
+    assert_eq!(String::from_utf8(listing(text)).unwrap(), listed);
+}
+
+#[test]
+fn p2_to_p6() {
+    assert_eq!(plan(1, &[1], &[]), Ok(vec![0]));
+    assert_eq!(plan(3, &[3], &[]), Ok(vec![5, 6]));
+    assert_eq!(plan(3, &[3, 5, 6], &[]), Ok(vec![1, 2, 4]));
+    assert_eq!(held(&[1, 2, 4], 1), vec![2, 3]);
+    assert_eq!(plan(2, &[3], &[3]), Err(Refusal { number: 6, a: 1, b: 1 }));
+    assert!(plan(2, &[3], &[1]).is_ok());
+}
+
+#[test]
+fn p7_to_p10() {
+    let pieces = |d, coefficients: &[u16]| [1, 2, 3].map(|j| piece(d, coefficients, j));
+    assert_eq!(pieces(1234, &[5, 7]), [1246, 1272, 1312]);
+    assert_eq!(pieces(32748, &[1, 0]), [0, 1, 2]);
+    assert_eq!(pieces(0, &[23483, 10512])[0], 1246);
+    assert_eq!(pieces(0, &[23483, 10512])[2], 1312);
+    let sum: u64 = weights(3).iter().zip([1246, 1272, 1312]).map(|(w, v)| w * v).sum();
+    assert_eq!(sum % P, 1234);
+}
+
+#[test]
+fn p11_and_p12() {
+    let words = words_of(&card(&p11(), 4));
+    assert_eq!(words[..9], [1987, 7, 4, 4, 3, 1, 1, 1246, 0]);
+    assert_eq!(words[255], 12025);
+    let pile = [card(&p11(), 1), card(&p11(), 4)].concat();
+    assert_eq!(join(&pile, &mut [0; 16]), Err(Refusal { number: 20, a: 2, b: 3 }));
+    let pile = [card(&p11(), 1), card(&p11(), 2)].concat();
+    let mut out = [9; 3];
+    assert_eq!(join(&pile, &mut out), Ok(1));
+    assert_eq!(out, [1234, 9, 9]);
+}
+
+#[test]
+fn eight_people_any_five() {
+    let fives: Vec<u16> = (0..256).filter(|set: &u16| set.count_ones() == 5).collect();
+    let groups = plan(8, &fives, &[]).unwrap();
+    assert_eq!(groups.len(), 70);
+    assert!((1..=8).all(|holder| held(&groups, holder).len() == 35));
+}

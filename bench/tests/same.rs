@@ -1,0 +1,127 @@
+//! The proved library against the independent implementation: the same answers, and the same content of every lent buffer.
+use bench::inputs;
+use bench::numbers::Numbers;
+use bench::reference::{self, Deal, Refusal, BLOCK};
+use bench::unit;
+use std::collections::BTreeMap;
+
+/// How often each refusal was met: a test that never meets one has not tested it.
+#[derive(Default)]
+struct Met(BTreeMap<usize, usize>);
+
+impl Met {
+    fn note<T>(&mut self, answer: &Result<T, Refusal>) {
+        *self.0.entry(answer.as_ref().map_or_else(|r| r.number, |_| 0)).or_default() += 1;
+    }
+
+    fn shows(&self, numbers: &[usize]) {
+        println!("answers by number: {:?}", self.0);
+        for number in numbers {
+            assert!(self.0.contains_key(number), "refusal {number} was never met");
+        }
+    }
+}
+
+#[test]
+fn policies() {
+    let mut n = Numbers::new(1);
+    let mut met = Met::default();
+    for _ in 0..100_000 {
+        let (people, required, forbidden) = inputs::policy(&mut n);
+        let before: [u16; 70] = std::array::from_fn(|_| n.next() as u16);
+        let mut groups = before;
+        let ours = unit::plan(people, &required, &forbidden, &mut groups);
+        let theirs = reference::plan(people, &required, &forbidden);
+        met.note(&theirs);
+        let mut expected = before;
+        if let Ok(theirs) = &theirs {
+            expected[..theirs.len()].copy_from_slice(theirs);
+        }
+        assert_eq!(ours, theirs.map(|groups| groups.len()), "{people} {required:?} {forbidden:?}");
+        assert_eq!(groups, expected, "{people} {required:?} {forbidden:?}");
+    }
+    met.shows(&[0, 1, 2, 3, 4, 5, 6]);
+}
+
+/// One argument made bad, or two.
+fn spoil(n: &mut Numbers, d: &mut Deal, holder: &mut usize) {
+    match n.below(8) {
+        0 => d.number = [0, 32749, 65536, usize::MAX][n.below(4)],
+        1 => *holder = [0, d.people + 1, usize::MAX][n.below(3)],
+        2 => d.secret.clear(),
+        3 => d.secret.resize(17 + n.below(3), 7),
+        4 => {
+            let at = n.below(d.secret.len().max(1));
+            if let Some(word) = d.secret.get_mut(at) {
+                *word = 32749 + n.below(32787) as u16;
+            }
+        }
+        5 => d.random.push(1),
+        6 => {
+            d.random.pop();
+        }
+        _ => {
+            let at = n.below(d.random.len().max(1));
+            if let Some(word) = d.random.get_mut(at) {
+                *word = 32749 + n.below(32787) as u16;
+            }
+        }
+    }
+}
+
+#[test]
+fn deals() {
+    let mut n = Numbers::new(2);
+    let mut met = Met::default();
+    for _ in 0..20_000 {
+        let mut d = inputs::good_deal(&mut n);
+        let mut holder = 1 + n.below(d.people);
+        if n.once_in(10) {
+            let (people, required, forbidden) = inputs::policy(&mut n);
+            (d.people, d.required, d.forbidden) = (people, required, forbidden);
+        }
+        if n.once_in(2) {
+            spoil(&mut n, &mut d, &mut holder);
+        }
+        if n.once_in(10) {
+            spoil(&mut n, &mut d, &mut holder);
+        }
+        let room = if n.once_in(4) { n.below(36 * BLOCK) } else { 36 * BLOCK };
+        let before: Vec<u8> = (0..room).map(|_| n.next() as u8).collect();
+        let (mut ours, mut theirs) = (before.clone(), before);
+        let said = unit::deal(&d, holder, &mut ours);
+        let expected = reference::deal(&d, holder, &mut theirs);
+        met.note(&expected);
+        assert_eq!(said, expected, "{d:?} {holder} {room}");
+        assert!(ours == theirs, "the lent card differs: {d:?} {holder} {room}");
+    }
+    met.shows(&[0, 1, 2, 3, 4, 5, 6, 8, 9, 10, 11, 12]);
+}
+
+#[test]
+fn piles() {
+    let mut n = Numbers::new(3);
+    let mut met = Met::default();
+    for round in 0..10_000 {
+        let d = inputs::good_deal(&mut n);
+        let piles = if round % 100 == 0 { 1 } else { 11 };
+        for _ in 0..piles {
+            let pile = inputs::pile(&mut n, &d);
+            let room = if n.once_in(4) { n.below(17) } else { 16 };
+            let before: Vec<u16> = (0..room).map(|_| n.next() as u16).collect();
+            let (mut ours, mut theirs) = (before.clone(), before);
+            let said = unit::join(&pile, &mut ours);
+            let expected = reference::join(&pile, &mut theirs);
+            met.note(&expected);
+            assert_eq!(said, expected, "{d:?}");
+            assert_eq!(ours, theirs, "{d:?}");
+            let before: [u16; 7] = std::array::from_fn(|_| n.next() as u16);
+            let mut head = before;
+            let said = unit::open(&pile, &mut head);
+            let expected = reference::open(&pile);
+            assert_eq!(said, expected.map(|_| 7), "{d:?}");
+            assert_eq!(head, expected.unwrap_or(before), "{d:?}");
+        }
+    }
+    met.shows(&[0, 12, 13, 14, 15, 16, 17, 18, 19, 20]);
+}
