@@ -63,24 +63,15 @@ first-all-go t (suc n) i h = rw (h i (le-refl i) (omega arith)) (first-all-go t 
 pub first-all : (t : ℕ → Bool) (i e : ℕ) → ((k : ℕ) → i ≤ k → k < e → t k ≡ false) → firstIn t i e ≡ 0
 first-all t i e h = first-all-go t (e - i) i (λ k l m. h k l (omega arith))
 
--- ---- past words that lack the test, and with a test that is the same from there on
-skip-from : (t u : ℕ → Bool) (n i j : ℕ) → i ≤ j → j ≤ i + n → ((k : ℕ) → i ≤ k → k < j → t k ≡ false) → ((k : ℕ) → j ≤ k → t k ≡ u k)
-    → firstFrom t i n ≡ firstFrom u j (i + n - j)
-unfolding firstFrom
-skip-from t u zero i j l h f g =
-    let e : i + 0 - j ≡ 0 = omega arith in
-    rw e
-skip-from t u (suc n) i j l h f g =
-    ⊎-elim
-    (λ (same : i ≡ j).
-    let e : i + suc n - j ≡ suc (i + 1 + n - (j + 1)) = omega arith in
-    rw (e, g i (omega arith)) (
-    let r = skip-from t u n (i + 1) (j + 1) (omega arith) (omega arith) (λ k a b. absurd (omega arith)) (λ k a. g k (omega arith)) in
-    rw (r, same)))
-    (λ (less : i < j).
-    let e : i + suc n - j ≡ i + 1 + n - j = omega arith in
-    rw (e, f i (le-refl i) less) (skip-from t u n (i + 1) j (omega arith) (omega arith) (λ k a b. f k (omega arith) b) g))
-    (eq-or-lt-of-le l)
+-- ---- past places that lack the test
+-- the first n places lack the test
+pub skip : (t : ℕ → Bool) (n i e : ℕ) → i + n ≤ e → ((k : ℕ) → i ≤ k → k < i + n → t k ≡ false) → firstIn t i e ≡ firstIn t (i + n) e
+skip t zero i e l h = let z : i + 0 ≡ i = omega arith in rw z
+skip t (suc n) i e l h =
+    let z : i + suc n ≡ i + 1 + n = omega arith in
+    rw z
+    (first-miss t i e (omega arith) (h i (le-refl i) (omega arith))
+    ∙ skip t n (i + 1) e (omega arith) (λ k a b. h k (omega arith) (omega arith)))
 
 -- one place more, at the end: it lacks the test; some earlier place has it; it alone has it
 miss-from : (t : ℕ → Bool) (n i : ℕ) → t (i + n) ≡ false → firstFrom t i (suc n) ≡ firstFrom t i n

@@ -1,7 +1,7 @@
 -- `number` and `outcome` tell all apart: each has a map back, kind by kind, so equal images have equal origins.
 -- Assumes nothing.
 use mathlib.Core.Path.{_≡_, refl, ap, sym, _∙_}
-use mathlib.Core.List.{List, [], _∷_}
+use mathlib.Core.List.{[], _∷_}
 use Prim.Native.Nat.{ℕ}
 use lib.ListN.{getD}
 use Rattle.answer.specs.declared.Kind.{Kind}

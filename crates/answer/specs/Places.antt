@@ -1,6 +1,6 @@
 -- Places: "Places, blocks and words count from 1"; 0 says that there is none.
 -- Assumes nothing.
-use mathlib.Core.Bool.{Bool, false, cond, not, _||_}
+use mathlib.Core.Bool.{Bool, cond, not}
 use mathlib.Core.List.{List, [], _∷_, _++_}
 use Prim.Native.Nat.{ℕ, zero, suc, _+_, _-_}
 use lib.Dec.{eqb}

@@ -15,7 +15,7 @@ use Rattle.answer.specs.Checks.{firstFail}
 use Rattle.block.specs.Words.{wordAt}
 use Rattle.block.specs.Layout.{headerOf, widthOf, rightAt, firstWrong}
 use Rattle.block.specs.Open.{above, firstAbove, blockLines, opening, byOutcome, valueBytes}
-use Rattle.block.proofs.SearchLaws.{first-same}
+use Rattle.answer.proofs.FirstLaws.{first-same}
 use Rattle.block.proofs.WordLaws.{word-front}
 use Rattle.block.proofs.SumLaws.{check-front}
 use Rattle.block.proofs.OpenLaws.{opening-block, opens-true}

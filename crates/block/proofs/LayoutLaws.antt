@@ -13,7 +13,7 @@ use Rattle.answer.specs.Places.{firstIn}
 use Rattle.answer.proofs.FirstLaws.{first-none, first-all, none-in}
 use Rattle.block.specs.Words.{wordAt}
 use Rattle.block.specs.Layout.{widthOf, within, rightAt, filled, firstWrong, Layout}
-use Rattle.block.proofs.SearchLaws.{skip, first-same}
+use Rattle.answer.proofs.FirstLaws.{skip, first-same}
 
 -- ---- two tests in one
 and-both : (x y : Bool) → x && y ≡ true → (x ≡ true) × (y ≡ true)

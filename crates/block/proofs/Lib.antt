@@ -1,4 +1,3 @@
-pub mod SearchLaws
 pub mod WordLaws
 pub mod SumLaws
 pub mod PrimeLaws

@@ -1,11 +1,10 @@
 -- The lines of a block, one after the other, and what opening says: a true block passes them all, and nothing else opens.
 -- Assumes nothing.
 use mathlib.Core.Path.{_≡_, sym, ap, _∙_}
-use mathlib.Core.Bool.{true, false, not}
+use mathlib.Core.Bool.{true, not}
 use mathlib.Core.Logic.{_≢_, ⊎-elim}
 use mathlib.Core.List.{List, [], _∷_, List·Memᴰ, List·Memᴰ·cases-cons, List·Memᴰ·not-nil}
 use Prim.Native.Nat.{ℕ, _≤_, _<_}
-use native.Mathlib.Nat.{pos-of-ne-zero}
 use native.Mathlib.Omega.{arith}
 use lib.ListN.{length}
 use lib.Dec.{eqb}
@@ -18,7 +17,7 @@ use Rattle.answer.specs.Checks.{Line, firstFail}
 use Rattle.answer.specs.Places.{found}
 use Rattle.answer.specs.Laws.{Passed, By}
 use Rattle.answer.proofs.CheckLaws.{given, not-given, passed, passed-one, passed-none, passed-done, done-passed, same-refusal, refused-by}
-use Rattle.answer.proofs.FirstLaws.{first-all, none-in, below-end}
+use Rattle.answer.proofs.FirstLaws.{first-all, none-in, below-end, found-some, found-none, some-found, none-found}
 use Rattle.block.specs.declared.Words.{Words}
 use Rattle.block.specs.declared.Opened.the-variants.{Head, Refused}
 use Rattle.block.specs.Words.{wordAt, checkOf, Small}
@@ -26,19 +25,6 @@ use Rattle.block.specs.Layout.{headerOf, rightAt, firstWrong}
 use Rattle.block.specs.Open.{above, firstAbove, torn, unread, check, header, blockLines, opening, wordsOf, opened, TrueBlock}
 use Rattle.block.specs.Laws.{Refusable, by-torn, by-unread, by-check, by-header}
 use Rattle.block.proofs.LayoutLaws.{layout-of, of-layout}
-
--- ---- a place was found, or none
-found-some : (f : ℕ) → f ≢ 0 → found f ≡ true
-found-some f h = ap not (ne-eqb f 0 h)
-
-found-none : (f : ℕ) → f ≡ 0 → found f ≡ false
-found-none f h = ap not (eq-eqb f 0 h)
-
-none-found : (f : ℕ) → found f ≡ false → f ≡ 0
-none-found f e = eqb-true f 0 (not-false (eqb f 0) e)
-
-some-found : (f : ℕ) → found f ≡ true → f ≢ 0
-some-found f e h = let z : true ≡ false = sym e ∙ found-none f h in let o : _≡_ {A = ℕ} 0 1 = cc in omega arith
 
 -- ---- no word is found above 32748 exactly where all 256 are at most that
 pub small-of : (b : List ℕ) → firstAbove b ≡ 0 → Small b 256
@@ -52,10 +38,10 @@ of-small b s = first-all (above b) 1 257 (λ k l h. le-ltb 32748 (wordAt b k) (s
 -- ---- the lines of a block: which of them speaks
 module _ {A : Type 0} (b : List ℕ) (a : ℕ) (end : Outcome A) where
   pub says-unread : firstAbove b ≢ 0 → firstFail (blockLines b a) end ≡ refused 15 a 0
-  says-unread h = given (unread b a) (check b a ∷ header b a ∷ []) end (found-some (firstAbove b) h)
+  says-unread h = given (unread b a) (check b a ∷ header b a ∷ []) end (found-some h)
 
   past-unread : firstAbove b ≡ 0 → firstFail (blockLines b a) end ≡ firstFail (check b a ∷ header b a ∷ []) end
-  past-unread h = not-given (unread b a) (check b a ∷ header b a ∷ []) end (found-none (firstAbove b) h)
+  past-unread h = not-given (unread b a) (check b a ∷ header b a ∷ []) end (found-none h)
 
   pub says-check : firstAbove b ≡ 0 → checkOf b ≢ wordAt b 256 → firstFail (blockLines b a) end ≡ refused 16 a 0
   says-check z h = past-unread z ∙ given (check b a) (header b a ∷ []) end (ap not (ne-eqb (checkOf b) (wordAt b 256) h))
@@ -64,18 +50,18 @@ module _ {A : Type 0} (b : List ℕ) (a : ℕ) (end : Outcome A) where
   past-check z s = past-unread z ∙ not-given (check b a) (header b a ∷ []) end (ap not (eq-eqb (checkOf b) (wordAt b 256) s))
 
   pub says-header : firstAbove b ≡ 0 → checkOf b ≡ wordAt b 256 → firstWrong b ≢ 0 → firstFail (blockLines b a) end ≡ refused 17 a (firstWrong b)
-  says-header z s h = past-check z s ∙ given (header b a) [] end (found-some (firstWrong b) h)
+  says-header z s h = past-check z s ∙ given (header b a) [] end (found-some h)
 
   pub says-end : firstAbove b ≡ 0 → checkOf b ≡ wordAt b 256 → firstWrong b ≡ 0 → firstFail (blockLines b a) end ≡ end
   unfolding firstFail
-  says-end z s h = past-check z s ∙ not-given (header b a) [] end (found-none (firstWrong b) h)
+  says-end z s h = past-check z s ∙ not-given (header b a) [] end (found-none h)
 
 -- ---- a true block passes them, and what passes them is a true block
 pub true-passes : (b : List ℕ) (a : ℕ) → TrueBlock b → Passed (blockLines b a)
 true-passes b a t =
-    passed-one (found-none (firstAbove b) (of-small b (t .clean)))
+    passed-one (found-none (of-small b (t .clean)))
     (passed-one (ap not (eq-eqb (checkOf b) (wordAt b 256) (t .sum)))
-    (passed-one (found-none (firstWrong b) (of-layout b (t .layout))) passed-none))
+    (passed-one (found-none (of-layout b (t .layout))) passed-none))
 
 pub passes-true : (b : List ℕ) (a : ℕ) → 512 ≤ length b → Passed (blockLines b a) → TrueBlock b
 passes-true b a l p =
@@ -119,7 +105,7 @@ told r l e h =
 
 wrong-place : (b : List ℕ) → header b 1 .given ≡ true → Refusable 17 1 (firstWrong b)
 unfolding firstWrong
-wrong-place b g = by-header (pos-of-ne-zero (some-found (firstWrong b) g)) (below-end (λ i. not (rightAt b i)) 255)
+wrong-place b g = by-header (some-found (firstWrong b) g) (below-end (λ i. not (rightAt b i)) 255)
 
 pub which-refusals : (pile : List ℕ) (m a b : ℕ) → opening pile ≡ refused m a b → Refusable m a b
 unfolding opening

@@ -14,7 +14,7 @@ use Rattle.answer.proofs.CheckLaws.{passed, passed-none, passed-one}
 use Rattle.answer.proofs.FirstLaws.{place-lacks, none-found, first-all, found-none}
 use Rattle.field.specs.Poly.{Below}
 use Rattle.field.proofs.Sums.{below-within}
-use Rattle.planning.proofs.Truth.{neither}
+use Rattle.answer.proofs.Truth.{neither}
 use Rattle.dealing.specs.Dealt.{tooLarge, outside, badNumber, badHolder, badWidth, badSecret, badCount, badRandom, inputLines}
 use Rattle.dealing.specs.Rows.{Inputs, Ready}
 

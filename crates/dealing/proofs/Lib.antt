@@ -5,4 +5,3 @@ pub mod CardLaws
 pub mod DealLaws
 pub mod MadeLaws
 pub mod Laws
-pub mod Cases

@@ -10,7 +10,7 @@ use Rattle.answer.proofs.ThoseLaws.{those-rise}
 use Rattle.planning.specs.Sets.{member}
 use Rattle.planning.specs.Groups as groups
 use Rattle.planning.specs.Groups.{holds}
-use Rattle.planning.proofs.Truth.{not-so, so-not}
+use Rattle.answer.proofs.Truth.{not-so, so-not}
 use Rattle.planning.proofs.Laws as planning
 use Rattle.dealing.specs.Deal.{pieceCount, held}
 use Rattle.dealing.specs.Dealt.{Made, blockCount}

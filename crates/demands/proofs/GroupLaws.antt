@@ -7,7 +7,7 @@ use native.Mathlib.Omega.{arith}
 use Rattle.answer.proofs.ThoseLaws.{in-those, those-in}
 use Rattle.planning.specs.Sets.{member, inside}
 use Rattle.planning.specs.Groups.{_∈_, authorised, holds}
-use Rattle.planning.proofs.Truth.{never, isn't}
+use Rattle.answer.proofs.Truth.{never, isn't}
 use Rattle.planning.proofs.SomeLaws.{some-in, in-some}
 use Rattle.planning.proofs.Laws as planning
 use Rattle.dealing.specs.Deal.{Deal, pieceCount, held}

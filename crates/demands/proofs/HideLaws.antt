@@ -12,7 +12,7 @@ use Rattle.answer.specs.Lent.{left}
 use Rattle.field.specs.Pieces.{Random, Paired}
 use Rattle.field.proofs.Laws.{paired-some}
 use Rattle.planning.specs.Groups.{_∈_, holds}
-use Rattle.planning.proofs.Truth.{never}
+use Rattle.answer.proofs.Truth.{never}
 use Rattle.dealing.specs.Deal.{Deal, again, pieceCount, held, values, card}
 use Rattle.dealing.specs.Dealt.{Made, dealing, dealtInto, blockCount}
 use Rattle.dealing.proofs.HeldLaws.{card-depends, held-in}

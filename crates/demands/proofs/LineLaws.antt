@@ -12,7 +12,7 @@ use Rattle.answer.specs.Checks.{Line, pick, firstFail}
 use Rattle.answer.specs.Laws.{Passed}
 use Rattle.answer.proofs.CheckLaws.{passed-none, passed-one, refused-by}
 use Rattle.planning.specs.Groups.{_∈_, some}
-use Rattle.planning.proofs.Truth.{never, isn't, neither}
+use Rattle.answer.proofs.Truth.{never, isn't, neither}
 use Rattle.planning.proofs.SomeLaws.{in-some}
 use Rattle.joining.specs.Joined.{linesFrom}
 use Rattle.demands.specs.Demand1.{Speaks, Ends, numbers, eachBlock}

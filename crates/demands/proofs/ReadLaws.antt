@@ -13,7 +13,7 @@ use Rattle.answer.proofs.FirstLaws.{first-all, found-some, found-none}
 use Rattle.answer.proofs.ThoseLaws.{those-same}
 use Rattle.field.proofs.Laws.{values-at}
 use Rattle.planning.specs.Groups.{_∈_}
-use Rattle.planning.proofs.Truth.{never}
+use Rattle.answer.proofs.Truth.{never}
 use Rattle.block.specs.Layout.{dealOf}
 use Rattle.block.specs.Open.{TrueBlock}
 use Rattle.dealing.specs.Deal.{Deal, pieceCount, held, values, blockOf, cardBlocks}

@@ -13,4 +13,3 @@ pub mod Curve
 pub mod Table
 pub mod Pairing
 pub mod Laws
-pub mod Cases

@@ -1,7 +1,7 @@
 -- The chain of checks, link by link; and what a pile that passed them all is.
 -- Assumes nothing.
-use mathlib.Core.Path.{_≡_, refl, sym, ap, _∙_}
-use mathlib.Core.Bool.{Bool, true, false, _||_, false≢true}
+use mathlib.Core.Path.{_≡_, sym, ap, _∙_}
+use mathlib.Core.Bool.{Bool, true}
 use mathlib.Core.Logic.{_≢_, ⊎-elim}
 use mathlib.Core.List.{List, [], _∷_, _++_}
 use Prim.Native.Nat.{ℕ, zero, suc, _+_, _%_, _≤_, _<_}
@@ -14,6 +14,7 @@ use Rattle.answer.specs.Outcome.{Outcome, done, refused}
 use Rattle.answer.specs.Checks.{firstFail}
 use Rattle.answer.specs.Places.{found}
 use Rattle.answer.specs.Laws.{Passed}
+use Rattle.answer.proofs.Truth.{neither}
 use Rattle.answer.proofs.CheckLaws.{given, not-given, passed, passed-none, passed-append, passed-both, done-passed}
 use Rattle.answer.proofs.FirstLaws.{found-some, found-none, some-found}
 use Rattle.answer.proofs.ThoseLaws.{those-few, those-all}
@@ -93,10 +94,6 @@ pub record Accepted (pile : List ℕ) (room w : ℕ) : Type 0 where
   pub full : Full pile
   pub fits : width pile ≤ room
   pub is : width pile ≡ w
-
-neither : (x y : Bool) → (x || y) ≡ false → (x ≡ false) × (y ≡ false)
-neither true y e = absurd (false≢true (sym e))
-neither false y e = (refl, e)
 
 every-place : (pile : List ℕ) → pieceCount pile ≤ length (present pile) → (j : ℕ) → 1 ≤ j → j ≤ pieceCount pile → 1 ≤ placeOf pile j
 unfolding present

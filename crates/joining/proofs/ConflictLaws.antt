@@ -12,6 +12,7 @@ use lib.Dec.{eqb}
 use borrow.Author.Tests.{eq-eqb, ne-eqb, eqb-true, not-false}
 use Rattle.answer.specs.Outcome.{done, refused}
 use Rattle.answer.specs.Checks.{firstFail}
+use Rattle.answer.proofs.Truth.{and-no, and-none}
 use Rattle.answer.specs.Places.{firstFrom, firstIn, found}
 use Rattle.answer.proofs.FirstLaws.{none-in, first-all, first-hit, first-miss, first-none}
 use Rattle.joining.specs.Pile.{blocks, firstBlock, width, pieceAt, hasPiece, placeOf, valueOf, differIn}
@@ -50,13 +51,6 @@ place-is pile a l h = first-of (hasPiece pile (pieceAt pile a)) 1 (blocks pile +
 -- no block below a is contradicted
 pub record Agree (pile : List ℕ) (a : ℕ) : Type 0 where
   pub agree : (b : ℕ) → 1 ≤ b → b < a → contradictedBy pile b ≡ 0
-
-pub and-no : (x y : Bool) → x ≡ false → x && y ≡ false
-and-no x y e = ap (λ (b : Bool). b && y) e
-
-pub and-none : (x : Bool) → x && false ≡ false
-and-none true = refl
-and-none false = refl
 
 -- block a differs from that first block: that one is the first to contradict it
 pub contradicted : (pile : List ℕ) (a : ℕ) → 1 ≤ a → a ≤ blocks pile → differIn pile a (placeOf pile (pieceAt pile a)) ≢ 0

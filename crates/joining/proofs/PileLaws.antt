@@ -1,6 +1,6 @@
 -- Laws of a pile's blocks: where the rest of it begins, and what its true blocks say. Assumes nothing.
-use mathlib.Core.Path.{_≡_, refl, sym, ap, _∙_}
-use mathlib.Core.Bool.{Bool, true, false, _&&_}
+use mathlib.Core.Path.{_≡_, sym, ap, _∙_}
+use mathlib.Core.Bool.{true, false}
 use mathlib.Core.List.{List}
 use Prim.Native.Nat.{ℕ, _+_, _-_, _*_, _≤_}
 use native.Mathlib.Omega.{arith}
@@ -20,10 +20,6 @@ equal {u = u} {v = v} p q e = eq-eqb u v (sym p ∙ e ∙ q)
 
 pub other : {x y u v : ℕ} → x ≡ u → y ≡ v → (x ≡ y → ⊥) → eqb u v ≡ false
 other {u = u} {v = v} p q f = ne-eqb u v (λ e. f (p ∙ e ∙ sym q))
-
-pub and-all : (x : Bool) → (x && true) ≡ x
-and-all true = refl
-and-all false = refl
 
 -- past block a
 pub rest-next : (pile : List ℕ) (a : ℕ) → 1 ≤ a → drop 512 (restFrom pile a) ≡ restFrom pile (a + 1)

@@ -14,6 +14,7 @@ use Rattle.answer.specs.Outcome.{done, refused}
 use Rattle.answer.specs.Checks.{Line, firstFail}
 use Rattle.answer.specs.Places.{found}
 use Rattle.answer.specs.Laws.{Passed}
+use Rattle.answer.proofs.Truth.{both, and-no, and-none}
 use Rattle.answer.proofs.CheckLaws.{append-lines, passed, passed-one, passed-none, passed-done}
 use Rattle.answer.proofs.FirstLaws.{none-in, first-all, has-test, first-of, found-some, found-none, none-found}
 use Rattle.answer.proofs.ThoseLaws.{those-few, those-all, those-full}
@@ -22,22 +23,18 @@ use Rattle.joining.specs.Pile.{blocks, restFrom, sameWords, sameDeal, pi
 use Rattle.joining.specs.Joined.{torn, long, everyBlock, mixedAt, mixed, contradicts, contradictedBy, conflictAt, conflict, short, narrow, wholeLines, joinLines, joining, enough}
 use Rattle.joining.specs.Laws.{In, Sound, Joins}
 use Rattle.joining.proofs.TableLaws.{place-most}
-use Rattle.joining.proofs.ConflictLaws.{Same, of-same, apart, and-no, and-none}
+use Rattle.joining.proofs.ConflictLaws.{Same, of-same, apart}
 use Rattle.joining.proofs.EnoughLaws.{enough-short, enough-none}
 use Rattle.joining.proofs.ChainLaws.{accepted, true-blocks}
 
 -- ---- two lists of words are the same exactly where the test says so
-both-true : (x y : Bool) → (x && y) ≡ true → (x ≡ true) × (y ≡ true)
-both-true true y e = (refl, e)
-both-true false y e = absurd (false≢true e)
-
 pub words-are : (xs ys : List ℕ) → sameWords xs ys ≡ true → xs ≡ ys
 unfolding sameWords
 words-are [] [] e = refl
 words-are [] (y ∷ ys) e = absurd (false≢true e)
 words-are (x ∷ xs) [] e = absurd (false≢true e)
 words-are (x ∷ xs) (y ∷ ys) e =
-    let r = both-true (eqb x y) (sameWords xs ys) e in
+    let r = both (eqb x y) (sameWords xs ys) e in
     let h : x ≡ y = eqb-true x y (r .0) in
     let t : xs ≡ ys = words-are xs ys (r .1) in
     cc

@@ -20,7 +20,7 @@ use Rattle.planning.specs.Sets.{inside}
 use Rattle.planning.specs.Groups.{authorised, groups}
 use Rattle.planning.specs.Planned.{people, long, strangers, nobody, opens, aroundPlace, clashPlace, clash, wide, listLines, planLines, planned}
 use Rattle.planning.specs.Laws.{Listed, Suits, Clashes, ClashFamilies, ClashPlaces}
-use Rattle.planning.proofs.Truth.{decided, isn't, surely}
+use Rattle.answer.proofs.Truth.{decided, isn't, surely}
 use Rattle.planning.proofs.SomeLaws.{some-place}
 use Rattle.planning.proofs.FamilyLaws.{clash-none, authorised-suits}
 use Rattle.planning.proofs.ListedLaws.{listed}

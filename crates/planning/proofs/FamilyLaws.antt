@@ -9,7 +9,7 @@ use Rattle.planning.specs.Sets.{inside}
 use Rattle.planning.specs.Groups.{authorised}
 use Rattle.planning.specs.Planned.{aroundPlace, clashPlace, clash}
 use Rattle.planning.specs.Laws.{Listed, Suits}
-use Rattle.planning.proofs.Truth.{never}
+use Rattle.answer.proofs.Truth.{never}
 use Rattle.planning.proofs.SomeLaws.{some-in, in-some, some-place, none-found}
 use Rattle.planning.proofs.HoldingLaws.{authorised-more, authorised-required}
 

@@ -16,7 +16,8 @@ use Rattle.answer.proofs.ThoseLaws.{those-same}
 use Rattle.planning.specs.Sets.{worth, member, each}
 use Rattle.planning.specs.Groups.{tight, maximalBy, groupsBy}
 use Rattle.planning.specs.Flags.{Flags, flagged}
-use Rattle.planning.proofs.Truth.{never, isn't, and-both, or-cases, or-l, or-r, each-at, each-same}
+use Rattle.answer.proofs.Truth.{never, isn't, and-both, or-cases, or-l, or-r}
+use Rattle.planning.proofs.EachLaws.{each-at, each-same}
 use Rattle.planning.proofs.SetLaws.{next-bit, bit-next, back, more-lt, person-lt}
 
 -- ---- the people, one after the other: those up to i are in the group or make it authorised, and the next is worth w

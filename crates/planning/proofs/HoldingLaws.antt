@@ -11,7 +11,8 @@ use lib.Pow.{pow-pos}
 use Rattle.answer.proofs.ThoseLaws.{at-in, in-at, in-those, those-in, those-rise}
 use Rattle.planning.specs.Sets.{worth, member, inside}
 use Rattle.planning.specs.Groups.{_∈_, authorised, tight, maximalBy, maximal, groupsBy, groups, pieceCount, groupOf, holds}
-use Rattle.planning.proofs.Truth.{never, decided, isn't, surely, both, and-both, neither, not-so, so-not, each-fails}
+use Rattle.answer.proofs.Truth.{never, decided, isn't, surely, both, and-both, neither, not-so, so-not}
+use Rattle.planning.proofs.EachLaws.{each-fails}
 use Rattle.planning.proofs.SetLaws.{back, member-le, inside-at, inside-fails, inside-refl, inside-trans, inside-more, inside-empty, group-small, person-lt}
 use Rattle.planning.proofs.SomeLaws.{some-in, in-some}
 

@@ -1,8 +1,7 @@
-pub mod Truth
+pub mod EachLaws
 pub mod SetLaws
 pub mod SomeLaws
 pub mod LoopLaws
-pub mod LineLaws
 pub mod GroupLaws
 pub mod HoldingLaws
 pub mod RowLaws
@@ -12,4 +11,3 @@ pub mod FamilyLaws
 pub mod ClashLaws
 pub mod AcceptedLaws
 pub mod Laws
-pub mod Cases

@@ -11,7 +11,7 @@ use Rattle.answer.proofs.CheckLaws.{passed}
 use Rattle.planning.specs.Sets.{stranger}
 use Rattle.planning.specs.Planned.{people, long, strangers, nobody, opens, listLines}
 use Rattle.planning.specs.Laws.{Listed}
-use Rattle.planning.proofs.Truth.{neither}
+use Rattle.answer.proofs.Truth.{neither}
 use Rattle.planning.proofs.SomeLaws.{none-found}
 
 pub listed : (n : ℕ) (required forbidden : List ℕ) → Passed (listLines n required forbidden) → Listed n required forbidden

@@ -1,4 +1,4 @@
--- A loop that looks through a list, at index i: what is still ahead says the same as the whole list.
+-- A loop that asks whether some set of a list has a test, at index i: what is still ahead says the same as the whole list.
 -- Assumes nothing.
 use mathlib.Core.Path.{_≡_, refl, sym, _∙_}
 use mathlib.Core.Bool.{Bool, true, false}
@@ -8,8 +8,6 @@ use native.Mathlib.Numerals.{add-one}
 use native.Mathlib.Omega.{arith}
 use lib.ListN.{length, getD, drop}
 use lib.Seq.{drop-cons, drop-length}
-use Rattle.answer.specs.Places.{firstPlace}
-use Rattle.answer.proofs.FirstLaws.{ahead, place-start, place-here, place-next, place-none}
 use Rattle.planning.specs.Groups.{some}
 
 -- ---- whether some set has the test
@@ -32,21 +30,3 @@ module _ {test : ℕ → Bool} {l : List ℕ} {i : ℕ} (h : SomeAhead test l i)
   pub some-end : length l ≤ i → false ≡ some test l
   unfolding some
   some-end p = let e : i ≡ length l = omega arith in sym (h .same ∙ rw (e, drop-length l))
-
--- ---- the first place of a set with the test
-pub record PlaceAhead (test : ℕ → Bool) (l : List ℕ) (i : ℕ) : Type 0 where
-  pub in-list : i ≤ length l
-  pub same : firstPlace test l ≡ ahead test l i
-
-pub start : (test : ℕ → Bool) (l : List ℕ) → PlaceAhead test l 0
-start test l = record { in-list = zero-le; same = place-start test l }
-
-module _ {test : ℕ → Bool} {l : List ℕ} {i : ℕ} (h : PlaceAhead test l i) where
-  pub here : i < length l → test (getD l i 0) ≡ true → i + 1 ≡ firstPlace test l
-  here p e = sym (h .same ∙ place-here test l i p e)
-
-  pub next : i < length l → test (getD l i 0) ≡ false → PlaceAhead test l (i + 1)
-  next p e = record { in-list = omega arith; same = h .same ∙ place-next test l i p e }
-
-  pub end : length l ≤ i → 0 ≡ firstPlace test l
-  end p = sym (h .same ∙ place-none test l i p)

@@ -12,7 +12,7 @@ use Rattle.answer.specs.Places.{firstPlace, found, at}
 use Rattle.answer.proofs.FirstLaws.{place-most, place-has, place-lacks}
 use Rattle.answer.proofs.ThoseLaws.{at-in, in-at}
 use Rattle.planning.specs.Groups.{_∈_, some}
-use Rattle.planning.proofs.Truth.{never, decided, isn't, or-cases, or-l, or-r}
+use Rattle.answer.proofs.Truth.{never, decided, isn't, or-cases, or-l, or-r}
 
 module _ (test : ℕ → Bool) where
   pub some-in : (l : List ℕ) → some test l ≡ true → (s : ℕ) × (s ∈ l) × (test s ≡ true)

@@ -1,6 +1,6 @@
 -- What a readable text looks like: each of its lines is written from a set, and its first from a digit. A computed test of the 512 sets.
 -- Assumes nothing.
-use borrow.Author.Tests.{lt-ltb, le-leb, ltb-true, ltb-false, leb-true, eqb-true, not-false}
+use borrow.Author.Tests.{lt-ltb, le-leb, ltb-true, ltb-false, leb-true, eqb-true}
 use mathlib.Core.Path.{_≡_, refl, sym, ap, ap₂, subst, _∙_}
 use mathlib.Core.Bool.{Bool, true, false, cond, _&&_, false≢true}
 use mathlib.Core.List.{List, [], _∷_, _++_, List·Memᴰ, List·Memᴰ·not-nil, List·Memᴰ·cases-cons}
@@ -12,9 +12,11 @@ use lib.Dec.{eqb, ltb, leb}
 use lib.ListN.{length, drop}
 use Rattle.answer.specs.Outcome.{done}
 use Rattle.answer.specs.Places.{those, found}
+use Rattle.answer.proofs.FirstLaws.{none-found}
 use Rattle.answer.proofs.CheckLaws.{never-both, done-passed, passed}
 use Rattle.planning.specs.Sets.{member, each}
-use Rattle.planning.proofs.Truth.{each-at, both}
+use Rattle.answer.proofs.Truth.{both}
+use Rattle.planning.proofs.EachLaws.{each-at}
 use Rattle.print.specs.Decimal.{digit, digits}
 use Rattle.print.specs.Lines.{spaced, spacedAll, feed}
 use Rattle.policy.specs.declared.Found.{Found}
@@ -281,14 +283,11 @@ first-shape l n e =
     (d .0, begins-means peopleWord l (f .0) ∙ ap (λ (x : List ℕ). peopleWord ++ x) (d .1))
 
 -- ---- the whole text
-found-none : (a : ℕ) → found a ≡ false → a ≡ 0
-found-none a h = eqb-true a 0 (not-false (eqb a 0) h)
-
 behind-shape : (x : Found) (l : List ℕ) (ls : List (List ℕ)) (p : Policy) → peopleIn l ≡ x → behindFirst x ls ≡ done p → Written (l ++ joined ls) p
 unfolding readSets writtenText
 behind-shape (Number n) l ls p e h =
     let r = done-passed _ _ p h in
-    let bad : firstBad 2 ls ≡ 0 = found-none (firstBad 2 ls) (passed (r .0) .0) in
+    let bad : firstBad 2 ls ≡ 0 = none-found (firstBad 2 ls) (passed (r .0) .0) in
     let es = entries-of ls 2 (omega arith) bad in
     let f = first-shape l n e in
     let same : record { people = n; required = requiredIn ls; forbidden = forbiddenIn ls } ≡ p = cc (r .1) in

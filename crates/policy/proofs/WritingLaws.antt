@@ -12,7 +12,8 @@ use Rattle.answer.specs.Outcome.{done}
 use Rattle.answer.specs.Checks.{firstFail}
 use Rattle.answer.specs.Places.{those}
 use Rattle.planning.specs.Sets.{member, each}
-use Rattle.planning.proofs.Truth.{each-at, both}
+use Rattle.answer.proofs.Truth.{both}
+use Rattle.planning.proofs.EachLaws.{each-at}
 use Rattle.print.specs.Decimal.{digit, digits}
 use Rattle.print.specs.Lines.{spaced, spacedAll, feed}
 use Rattle.policy.specs.declared.Found.{Found}

@@ -1,3 +1,2 @@
 pub mod ListingLaws
 pub mod PlanLaws
-pub mod Cases

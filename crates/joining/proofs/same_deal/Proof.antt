@@ -2,7 +2,8 @@
 use mathlib.Core.Path.{sym, ap₂, _∙_}
 use lib.Dec.{eqb}
 use Rattle.joining.specs.Pile.{sameDeal, sameWords}
-use Rattle.joining.proofs.PileLaws.{equal, other, and-all}
+use Rattle.answer.proofs.Truth.{and-all}
+use Rattle.joining.proofs.PileLaws.{equal, other}
 use borrow.Author.Needs.{needs}
 use Rattle.joining.proofs.same_deal.Statement.{statement}
 use Rattle.joining.proofs.same_deal.Tie as tie

@@ -9,7 +9,7 @@ use lib.ListN.{length}
 use borrow.Author.Needs.{needs}
 use borrow.Author.Tests.{eq-eqb, ne-eqb}
 use Rattle.answer.specs.Checks.{Line}
-use Rattle.planning.proofs.LineLaws.{said, Says, whole, passes, speaks, silent}
+use Rattle.answer.proofs.SaysLaws.{said, Says, whole, passes, speaks, silent}
 use Rattle.planning.proofs.SomeLaws.{found-at, found-none}
 use Rattle.dealing.specs.Dealt.{badNumber, badHolder, badWidth, badSecret, badCount, badRandom, inputLines}
 use Rattle.dealing.specs.Rows.{Inputs, inputsOf}

@@ -5,7 +5,7 @@ use native.Mathlib.Omega.{arith}
 use lib.ListN.{length}
 use borrow.Author.Needs.{needs}
 use borrow.Author.Tests.{lt-ltb, le-ltb}
-use Rattle.planning.proofs.LoopLaws.{PlaceAhead, start, here, next, end}
+use Rattle.answer.proofs.AheadLaws.{PlaceAhead, start, here, next, end}
 use Rattle.dealing.specs.Dealt.{tooLarge}
 use Rattle.dealing.proofs.checks.first_large.Statement.{statement}
 use Rattle.dealing.proofs.checks.first_large.Tie as tie

@@ -9,7 +9,7 @@ use borrow.Author.Needs.{needs}
 use Rattle.answer.specs.Places.{found}
 use Rattle.answer.proofs.FirstLaws.{place-most}
 use Rattle.planning.specs.Planned.{aroundPlace, clashPlace, clash}
-use Rattle.planning.proofs.LineLaws.{whole, passes, speaks, silent}
+use Rattle.answer.proofs.SaysLaws.{whole, passes, speaks, silent}
 use Rattle.planning.proofs.SomeLaws.{found-at, found-none}
 use Rattle.planning.proofs.checks.check_clash.Statement.{statement}
 use Rattle.planning.proofs.checks.check_clash.Tie as tie

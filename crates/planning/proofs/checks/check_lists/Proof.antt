@@ -8,8 +8,8 @@ use borrow.Author.Needs.{needs}
 use borrow.Author.Tests.{eq-eqb, ne-eqb, lt-ltb, le-ltb}
 use Rattle.answer.specs.Checks.{Line}
 use Rattle.planning.specs.Planned.{people, long, strangers, nobody, opens, listLines}
-use Rattle.planning.proofs.Truth.{or-l, or-r}
-use Rattle.planning.proofs.LineLaws.{said, Says, whole, passes, speaks, silent}
+use Rattle.answer.proofs.Truth.{or-l, or-r}
+use Rattle.answer.proofs.SaysLaws.{said, Says, whole, passes, speaks, silent}
 use Rattle.planning.proofs.SomeLaws.{found-at, found-none}
 use Rattle.planning.proofs.checks.check_lists.Statement.{statement}
 use Rattle.planning.proofs.checks.check_lists.Tie as tie

@@ -6,7 +6,7 @@ use Rattle.planning.specs.Sets.{inside}
 use native.Mathlib.Omega.{arith}
 use lib.ListN.{length}
 use borrow.Author.Needs.{needs}
-use Rattle.planning.proofs.LoopLaws.{PlaceAhead, start, here, next, end}
+use Rattle.answer.proofs.AheadLaws.{PlaceAhead, start, here, next, end}
 use Rattle.planning.proofs.checks.first_around.Statement.{statement}
 use Rattle.planning.proofs.checks.first_around.Tie as tie
 

@@ -9,7 +9,7 @@ use Rattle.planning.proofs.SomeLaws.{found-at, found-none}
 use native.Mathlib.Omega.{arith}
 use lib.ListN.{length}
 use borrow.Author.Needs.{needs}
-use Rattle.planning.proofs.LoopLaws.{PlaceAhead, start, here, next, end}
+use Rattle.answer.proofs.AheadLaws.{PlaceAhead, start, here, next, end}
 use Rattle.planning.proofs.checks.first_clash.Statement.{statement}
 use Rattle.planning.proofs.checks.first_clash.Tie as tie
 

@@ -6,7 +6,7 @@ use borrow.Author.Tests.{eq-eqb, ne-eqb}
 use native.Mathlib.Omega.{arith}
 use lib.ListN.{length}
 use borrow.Author.Needs.{needs}
-use Rattle.planning.proofs.LoopLaws.{PlaceAhead, start, here, next, end}
+use Rattle.answer.proofs.AheadLaws.{PlaceAhead, start, here, next, end}
 use Rattle.planning.proofs.checks.first_empty.Statement.{statement}
 use Rattle.planning.proofs.checks.first_empty.Tie as tie
 

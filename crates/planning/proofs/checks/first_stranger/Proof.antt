@@ -8,7 +8,7 @@ use Rattle.planning.specs.Sets.{stranger}
 use native.Mathlib.Omega.{arith}
 use lib.ListN.{length}
 use borrow.Author.Needs.{needs}
-use Rattle.planning.proofs.LoopLaws.{PlaceAhead, start, here, next, end}
+use Rattle.answer.proofs.AheadLaws.{PlaceAhead, start, here, next, end}
 use Rattle.planning.proofs.checks.first_stranger.Statement.{statement}
 use Rattle.planning.proofs.checks.first_stranger.Tie as tie
 

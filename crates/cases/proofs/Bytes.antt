@@ -1,0 +1,53 @@
+-- P11 and P12 on the bytes: the deal is made, the block of holder 4, and the pile of holders 1 and 4.
+-- Assumes nothing.
+use mathlib.Core.Path.{_≡_, refl, _∙_, ap, subst⁻¹}
+use mathlib.Core.List.{List}
+use Prim.Native.Nat.{ℕ, _*_, _≤_}
+use native.Mathlib.Omega.{arith}
+use lib.ListN.{length}
+use Rattle.answer.specs.Outcome.{done, refused}
+use Rattle.answer.specs.Checks.{firstFail}
+use Rattle.answer.specs.Places.{firstFrom, firstPlace, those}
+use Rattle.field.specs.Poly.{value}
+use Rattle.field.specs.Pieces.{values as valuesIn}
+use Rattle.planning.specs.Sets.{each, inside, member, stranger}
+use Rattle.planning.specs.Groups as planning
+use Rattle.planning.specs.Groups.{some, authorised, tight, maximalBy, groupsBy, holds}
+use Rattle.planning.specs.Planned.{people, long, strangers, nobody, opens, clashPlace, clash, wide, listLines, planLines}
+use Rattle.block.specs.Words.{wordAt, bytesOf, weighted, checkOf}
+use Rattle.block.specs.Layout.{rightAt, firstWrong}
+use Rattle.block.specs.Open.{firstAbove}
+use Rattle.block.specs.Written.{body, blockBytes}
+use Rattle.dealing.specs.Deal.{pieceCount, held, values, header, blockOf, flat, cardBlocks, card}
+use Rattle.dealing.specs.Dealt.{badNumber, badHolder, badWidth, badSecret, badCount, badRandom, inputLines, noRoom, blockCount, dealLines, dealing, Made}
+use Rattle.dealing.proofs.Laws as law
+use Rattle.joining.specs.Pile.{blocks, restFrom, sameWords, sameDeal, placeOf, differIn, present}
+use Rattle.joining.specs.Joined.{linesFrom, everyBlock, mixedAt, contradicts, contradictedBy, conflictAt, joinLines, joining}
+use Rattle.cases.specs.Plain.{set}
+use Rattle.cases.specs.Table.{deal11, words11, pile12}
+
+-- holder 4 has one block
+pub one-block : blockCount deal11 4 ≡ 1
+unfolding blockCount held planning.held holds groupsBy those maximalBy tight authorised some each inside member set
+one-block = refl
+
+-- the deal can be made
+pub made : Made deal11
+unfolding dealing dealLines firstFail planLines listLines people long strangers nobody opens clash clashPlace wide stranger inputLines badNumber badHolder badWidth badSecret badCount badRandom noRoom blockCount held pieceCount firstPlace firstFrom planning.held holds groupsBy those maximalBy tight authorised some each inside member set
+made = record { holder = 4; room = 512; blocks = 1; answer = refl }
+
+-- every byte of that block
+pub the-block : card deal11 4 ≡ bytesOf words11
+unfolding card cardBlocks flat blockOf header values held pieceCount valuesIn value planning.held holds groupsBy those maximalBy tight authorised some each inside member set blockBytes body bytesOf checkOf weighted wordAt
+the-block = refl
+
+-- it is dealt into every output that has room for it
+pub dealt : (out : List ℕ) → 512 ≤ length out → dealing deal11 4 (length out) ≡ done 1
+dealt out room =
+    law.deals-all deal11 made 4 (omega arith) (omega arith) (length out) (subst⁻¹ (λ b. 512 * b ≤ length out) one-block room)
+    ∙ ap done one-block
+
+-- no output is too short for SHORT: ROOM comes after it
+pub short-two : (room : ℕ) → joining pile12 room ≡ refused 20 2 3
+unfolding joining joinLines linesFrom everyBlock mixedAt contradicts contradictedBy conflictAt blocks restFrom sameWords sameDeal placeOf differIn present firstFail firstFrom firstAbove rightAt firstWrong card cardBlocks flat blockOf header values held pieceCount valuesIn value planning.held holds groupsBy those maximalBy tight authorised some each inside member set blockBytes body bytesOf checkOf weighted wordAt
+short-two room = refl

@@ -1,0 +1,18 @@
+-- P1 on the bytes: what the listing program prints for the text, by computation.
+-- Assumes nothing.
+use mathlib.Core.Path.{_≡_, refl}
+use Rattle.answer.specs.Checks.{firstFail}
+use Rattle.answer.specs.Places.{firstFrom, firstPlace, those}
+use Rattle.planning.specs.Sets.{member, each, inside, stranger}
+use Rattle.planning.specs.Groups.{some, authorised, tight, maximalBy, groupsBy, holds}
+use Rattle.planning.specs.Planned.{people, long, strangers, nobody, opens, clashPlace, clash, wide, listLines, planLines, planned}
+use Rattle.print.specs.Decimal.{digits}
+use Rattle.print.specs.Lines.{spaced, spacedAll}
+use Rattle.policy.specs.Policy.{lines, begins, oneDigit, peopleIn, members, lineSays, firstBad, requiredIn, forbiddenIn, readSets, readLines, readPolicy}
+use Rattle.text.specs.Listing.{label, firstLine, pieceLine, holderLine, rising, listingBy, listing, listedPlan, listed}
+use Rattle.cases.specs.Plain.{bytes, textOf}
+use Rattle.cases.specs.Table.{text1, printed1}
+
+pub prints : listed text1 ≡ printed1
+unfolding listed listedPlan listing listingBy rising holderLine pieceLine firstLine label spacedAll spaced digits lines begins oneDigit peopleIn members lineSays firstBad requiredIn forbiddenIn readSets readLines readPolicy bytes textOf planned planLines listLines people long strangers nobody opens clashPlace clash wide firstFail firstFrom firstPlace those member each inside stranger some authorised tight maximalBy groupsBy holds
+prints = refl
