@@ -1,0 +1,80 @@
+//! The edges that document 01 names, on the library: 560 and 561 blocks, an output too short by one word and by one byte, slots and words
+//! of 32748 and 32749. What is expected is written here, from document 01.
+use bench::inputs::{blocks, card, with_word};
+use bench::reference::{Deal, Refusal, BLOCK};
+use bench::unit;
+
+fn p7() -> Deal {
+    Deal { people: 4, required: vec![3, 6, 12], forbidden: vec![9], number: 7, secret: vec![1234], random: vec![5, 7] }
+}
+
+fn refused(number: usize, a: usize, b: usize) -> Result<usize, Refusal> {
+    Err(Refusal { number, a, b })
+}
+
+#[test]
+fn blocks_560_and_561() {
+    let three = blocks(&p7(), 3);
+    let pile = |count: usize| (0..count).flat_map(|i| three[i % three.len()].clone()).collect::<Vec<u8>>();
+    let mut out = [9; 2];
+    assert_eq!(unit::join(&pile(560), &mut out), Ok(1));
+    assert_eq!(out, [1234, 9]);
+    let mut out = [9; 2];
+    assert_eq!(unit::join(&pile(561), &mut out), refused(14, 0, 0));
+    assert_eq!(out, [9, 9]);
+}
+
+#[test]
+fn every_order_of_three_pieces() {
+    let three = blocks(&p7(), 3);
+    for order in [[0, 1, 2], [0, 2, 1], [1, 0, 2], [1, 2, 0], [2, 0, 1], [2, 1, 0]] {
+        let mut out = [9];
+        assert_eq!(unit::join(&order.map(|i| three[i].clone()).concat(), &mut out), Ok(1));
+        assert_eq!(out, [1234]);
+    }
+}
+
+#[test]
+fn output_too_short() {
+    let d = Deal { secret: vec![1, 2, 3], random: vec![0; 6], ..p7() };
+    let pile = blocks(&d, 3).concat();
+    let mut out = [9; 2];
+    assert_eq!(unit::join(&pile, &mut out), refused(12, 3, 0));
+    assert_eq!(out, [9; 2]);
+    let mut out = [9; 3];
+    assert_eq!(unit::join(&pile, &mut out), Ok(3));
+    assert_eq!(out, [1, 2, 3]);
+    let mut out = vec![9; 2 * BLOCK - 1];
+    assert_eq!(unit::deal(&d, 2, &mut out), refused(12, 2, 0));
+    assert!(out.iter().all(|byte| *byte == 9));
+    let mut out = vec![9; 2 * BLOCK + 1];
+    assert_eq!(unit::deal(&d, 2, &mut out), Ok(2));
+    assert_eq!(out[2 * BLOCK], 9);
+}
+
+#[test]
+fn slots_of_32748_32749_and_32767() {
+    let pile = |slot: u16| {
+        let mut pile = blocks(&p7(), 3).concat();
+        with_word(&mut pile[BLOCK..2 * BLOCK], 8, slot, true);
+        pile
+    };
+    assert_eq!(unit::join(&pile(32748), &mut [0]), Ok(1));
+    assert_eq!(unit::join(&pile(32749), &mut [0]), refused(15, 2, 0));
+    assert_eq!(unit::join(&pile(32767), &mut [0]), refused(15, 2, 0));
+}
+
+#[test]
+fn words_of_32748_and_32749() {
+    let with = |secret: u16, random: u16| unit::deal(&Deal { secret: vec![secret], random: vec![5, random], ..p7() }, 4, &mut [0; BLOCK]);
+    assert_eq!(with(32748, 32748), Ok(1));
+    assert_eq!(with(32749, 7), refused(10, 1, 0));
+    assert_eq!(with(1234, 32749), refused(11, 2, 0));
+}
+
+#[test]
+fn a_holder_of_no_pieces() {
+    let d = Deal { people: 3, required: vec![3], forbidden: vec![], number: 1, secret: vec![7], random: vec![8] };
+    assert_eq!(unit::deal(&d, 3, &mut []), Ok(0));
+    assert!(card(&d, 3).is_empty());
+}
