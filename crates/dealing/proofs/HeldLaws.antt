@@ -4,26 +4,23 @@ use Prim.Native.Nat.{ℕ, _-_, _≤_}
 use mathlib.Core.Path.{_≡_, refl, sym, ap, ap₂, _∙_}
 use mathlib.Core.Bool.{true}
 use mathlib.Core.List.{List, [], _∷_, map, List·Memᴰ·head, List·Memᴰ·tail}
-use native.Mathlib.Omega.{arith}
 use lib.ListN.{length}
-use Rattle.answer.proofs.ThoseLaws.{in-those, those-in}
 use Rattle.field.proofs.ValuesLaws as field
 use Rattle.planning.specs.Groups as planning
 use Rattle.planning.specs.Groups.{_∈_, holds}
+use Rattle.planning.proofs.Laws.{held-are}
 use Rattle.block.specs.Written.{blockBytes}
 use Rattle.dealing.specs.Deal.{Deal, pieceCount, held, values, header, blockOf, flat, cardBlocks, card}
 
 -- ---- which pieces a person holds
 module _ (d : Deal) (holder j : ℕ) where
   pub held-in : j ∈ held d holder → (1 ≤ j) × (j ≤ pieceCount d) × (holds (d .policy .people) (d .policy .required) holder j ≡ true)
-  unfolding held planning.held pieceCount
-  held-in m =
-      let r = in-those (holds (d .policy .people) (d .policy .required) holder) 1 (pieceCount d) j m in
-      (r .0, omega arith, r .2)
+  unfolding held pieceCount
+  held-in m = held-are (d .policy .people) (d .policy .required) holder j .0 m
 
   pub in-held : 1 ≤ j → j ≤ pieceCount d → holds (d .policy .people) (d .policy .required) holder j ≡ true → j ∈ held d holder
-  unfolding held planning.held pieceCount
-  in-held l h t = those-in (holds (d .policy .people) (d .policy .required) holder) 1 (pieceCount d) j l (omega arith) t
+  unfolding held pieceCount
+  in-held l h t = held-are (d .policy .people) (d .policy .required) holder j .1 (l, h, t)
 
 -- ---- there is a value for each word of the secret
 pub values-length : (d : Deal) (j : ℕ) → length (values d j) ≡ length (d .secret)

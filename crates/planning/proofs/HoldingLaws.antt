@@ -10,7 +10,7 @@ use lib.ListN.{getD}
 use lib.Pow.{pow-pos}
 use Rattle.answer.proofs.ThoseLaws.{at-in, in-at, in-those, those-in, those-rise}
 use Rattle.planning.specs.Sets.{worth, member, inside}
-use Rattle.planning.specs.Groups.{_∈_, authorised, tight, maximalBy, maximal, groupsBy, groups, pieceCount, groupOf, holds}
+use Rattle.planning.specs.Groups.{_∈_, authorised, tight, maximalBy, maximal, groupsBy, groups, pieceCount, groupOf, holds, held}
 use Rattle.answer.proofs.Truth.{never, decided, isn't, surely, both, and-both, neither, not-so, so-not}
 use Rattle.planning.proofs.EachLaws.{each-fails}
 use Rattle.planning.proofs.SetLaws.{back, member-le, inside-at, inside-fails, inside-refl, inside-trans, inside-more, inside-empty, group-small, person-lt}
@@ -78,6 +78,14 @@ module _ (n : ℕ) (required : List ℕ) where
   pub groups-rise : (i j : ℕ) → 1 ≤ i → i < j → j ≤ pieceCount n required → groupOf n required i < groupOf n required j
   unfolding groupsBy
   groups-rise i j l p h = those-rise (maximal n required) 0 (2 ^ n) .rise (i - 1) (j - 1) (omega arith) (omega arith)
+
+  -- ---- the pieces held are those of 1 to k that the person holds
+  pub held-are : (i j : ℕ) → (j ∈ held n required i) ↔ ((1 ≤ j) × (j ≤ pieceCount n required) × (holds n required i j ≡ true))
+  unfolding held
+  held-are i j = (
+    (λ m. let r = in-those (holds n required i) 1 (pieceCount n required) j m in (r .0, omega arith, r .2)),
+    (λ r. those-in (holds n required i) 1 (pieceCount n required) j (r .0) (omega arith) (r .2)),
+  )
 
   -- ---- an unauthorised group lacks the piece of a maximal group around it
   pub lacks : n ≤ 8 → (g : ℕ) → g < 2 ^ n → authorised required g ≡ false

@@ -33,6 +33,9 @@ groups-are = holding.groups-are
 pub groups-rise : law.GroupsRise
 groups-rise = holding.groups-rise
 
+pub held-are : law.HeldAre
+held-are = holding.held-are
+
 pub gathers : law.Gathers
 gathers = holding.gathers
 

@@ -12,7 +12,7 @@ use Rattle.answer.specs.Places.{at}
 use Rattle.answer.specs.Laws.{Passed, IsFirst}
 use Rattle.planning.specs.declared.table.Plan.{Plan}
 use Rattle.planning.specs.Sets.{member, inside, stranger}
-use Rattle.planning.specs.Groups.{_∈_, some, authorised, maximal, pieceCount, groupOf, holds, marked}
+use Rattle.planning.specs.Groups.{_∈_, some, authorised, maximal, pieceCount, groupOf, holds, held, marked}
 use Rattle.planning.specs.Planned.{listLines, planned, plannedRows}
 
 -- ---- what the numbers mean
@@ -74,6 +74,11 @@ GroupsAre = (n : ℕ) (required : List ℕ) (g : ℕ)
 -- They rise with the piece's number, so no two pieces have the same group.
 abbrev pub GroupsRise : Type 0
 GroupsRise = (n : ℕ) (required : List ℕ) (i j : ℕ) → 1 ≤ i → i < j → j ≤ pieceCount n required → groupOf n required i < groupOf n required j
+
+-- "the pieces held": those of 1 to k that the person holds, and no others.
+abbrev pub HeldAre : Type 0
+HeldAre = (n : ℕ) (required : List ℕ) (i j : ℕ)
+    → (j ∈ held n required i) ↔ ((1 ≤ j) × (j ≤ pieceCount n required) × (holds n required i j ≡ true))
 
 -- A group of the n people is authorised exactly when for every piece some member holds it.
 abbrev pub Gathers : Type 0
