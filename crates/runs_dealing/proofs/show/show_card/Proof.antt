@@ -1,9 +1,9 @@
--- `runs_dealing::show_card` is safe and ends.
+-- `runs_dealing::show::show_card` is safe and ends.
 -- Assumes nothing.
 use Prim.Native.Nat.{_-_}
 use borrow.Author.Needs.{needs}
-use Rattle.runs_dealing.proofs.show_card.Statement.{statement}
-use Rattle.runs_dealing.proofs.show_card.Tie as tie
+use Rattle.runs_dealing.proofs.show.show_card.Statement.{statement}
+use Rattle.runs_dealing.proofs.show.show_card.Tie as tie
 
 abbrev Inv-loop : tie.InvT-loop
 Inv-loop b count i₀ t5 i = Unit {0}

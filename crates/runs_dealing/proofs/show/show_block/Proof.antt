@@ -1,9 +1,9 @@
--- `runs_dealing::show_block` is safe and ends.
+-- `runs_dealing::show::show_block` is safe and ends.
 -- Assumes nothing.
 use Prim.Native.Nat.{_-_, _≤_}
 use borrow.Author.Needs.{needs}
-use Rattle.runs_dealing.proofs.show_block.Statement.{statement}
-use Rattle.runs_dealing.proofs.show_block.Tie as tie
+use Rattle.runs_dealing.proofs.show.show_block.Statement.{statement}
+use Rattle.runs_dealing.proofs.show.show_block.Tie as tie
 
 abbrev Inv-loop : tie.InvT-loop
 Inv-loop b before first i₀ i = (first ≤ 17664) × (i ≤ 9)
