@@ -23,6 +23,7 @@ use Rattle.demands.specs.Demand2 as demand
 use Rattle.demands.proofs.GroupLaws.{all-held, held-all}
 use Rattle.demands.proofs.PieceLaws.{is-maximal, maximal-is}
 use Rattle.demands.proofs.CardLaws.{block-at}
+use Rattle.demands.proofs.OneBlock.{each-word}
 
 pub the-pieces : demand.ThePieces
 unfolding pieceCount
@@ -48,6 +49,9 @@ who-holds d i = (
 
 pub who-opens : demand.WhoOpens
 who-opens d made g group = let few = made-in-range d made .few in (all-held d g few group, held-all d g few group)
+
+pub one-block : demand.OneBlock
+one-block d holder j b c x y = each-word x y
 
 pub every-byte : demand.EveryByte
 unfolding blockCount

@@ -6,6 +6,7 @@ pub mod BlockLaws
 pub mod FlatLaws
 pub mod PieceLaws
 pub mod CardLaws
+pub mod OneBlock
 pub mod Demand2
 pub mod ReadLaws
 pub mod AnswerLaws

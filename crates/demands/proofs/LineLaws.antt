@@ -51,7 +51,7 @@ ends (l ∷ ls) v = ends-pick l ls v (l .given) (firstFail ls (done v)) refl (en
 
 -- ---- which numbers
 -- m is below low or above high
-abbrev pub strays : ℕ → ℕ → ℕ → Bool
+abbrev strays : ℕ → ℕ → ℕ → Bool
 strays low high m = ltb m low || ltb high m
 
 pub refuses : {A : Type 0} (low high : ℕ) (ls : List Line) (ms : List ℕ) (v : A) (m a b : ℕ) → numbers ls ≡ ms → some (strays low high) ms ≡ false

@@ -72,6 +72,11 @@ pub record CardBlock (d : Deal) (holder j : ℕ) (b : List ℕ) : Type 0 where
   pub zeros : (i : ℕ) → 8 + length (d .secret) ≤ i → i ≤ 255 → wordAt b i ≡ 0
   pub check : wordAt b 256 ≡ checkOf b
 
+-- That table leaves no word open: two blocks that keep it agree in all 256 words.
+abbrev pub OneBlock : Type 0
+OneBlock = (d : Deal) (holder j : ℕ) (b c : List ℕ) → CardBlock d holder j b → CardBlock d holder j c
+    → (i : ℕ) → 1 ≤ i → i ≤ 256 → wordAt b i ≡ wordAt c i
+
 -- "A card is one block of 512 bytes for each piece held, in rising piece number", and dealing writes it, and nothing else, over the front of
 -- the lent output.
 abbrev pub EveryByte : Type 0
