@@ -24,7 +24,7 @@ use Rattle.answer.proofs.FirstLaws.{first-of, is-first, has-test, below-end}
 pub record Same (pile : List ℕ) (a b : ℕ) : Type 0 where
   pub same : (i : ℕ) → 1 ≤ i → i ≤ width pile → valueOf pile a i ≡ valueOf pile b i
 
-pub same-of : (pile : List ℕ) (a b : ℕ) → differIn pile a b ≡ 0 → Same pile a b
+same-of : (pile : List ℕ) (a b : ℕ) → differIn pile a b ≡ 0 → Same pile a b
 unfolding differIn
 same-of pile a b z = record {
   same = λ i l h.
@@ -53,7 +53,7 @@ pub record Agree (pile : List ℕ) (a : ℕ) : Type 0 where
   pub agree : (b : ℕ) → 1 ≤ b → b < a → contradictedBy pile b ≡ 0
 
 -- block a differs from that first block: that one is the first to contradict it
-pub contradicted : (pile : List ℕ) (a : ℕ) → 1 ≤ a → a ≤ blocks pile → differIn pile a (placeOf pile (pieceAt pile a)) ≢ 0
+contradicted : (pile : List ℕ) (a : ℕ) → 1 ≤ a → a ≤ blocks pile → differIn pile a (placeOf pile (pieceAt pile a)) ≢ 0
     → contradictedBy pile a ≡ placeOf pile (pieceAt pile a)
 unfolding contradictedBy contradicts
 contradicted pile a l h d =
@@ -85,7 +85,7 @@ agrees pile a b f g l h m n q =
     (eq-or-lt-of-le n)
 
 -- block a has the values of that first block: none contradicts it
-pub uncontradicted : (pile : List ℕ) (a : ℕ) → 1 ≤ a → a ≤ blocks pile → Agree pile a → differIn pile a (placeOf pile (pieceAt pile a)) ≡ 0
+uncontradicted : (pile : List ℕ) (a : ℕ) → 1 ≤ a → a ≤ blocks pile → Agree pile a → differIn pile a (placeOf pile (pieceAt pile a)) ≡ 0
     → contradictedBy pile a ≡ 0
 unfolding contradictedBy contradicts
 uncontradicted pile a l h g d =
@@ -142,7 +142,7 @@ seek-end pile a h s =
     rw e
 
 -- ---- CONFLICT over all pairs is each block against the first block of its piece
-abbrev pub apartFromFirst : List ℕ → ℕ → Bool
+abbrev apartFromFirst : List ℕ → ℕ → Bool
 apartFromFirst pile a = found (differIn pile a (placeOf pile (pieceAt pile a)))
 
 agree-on : (pile : List ℕ) (a : ℕ) → Agree pile a → contradictedBy pile a ≡ 0 → Agree pile (a + 1)

@@ -29,7 +29,7 @@ deal-words b c e = (
   ap (λ (l : List ℕ). getD l 3 0) e,
 )
 
-pub same-count : (pile : List ℕ) → Sound pile → (a b : ℕ) → In pile a → In pile b → word pile a 5 ≡ word pile b 5
+same-count : (pile : List ℕ) → Sound pile → (a b : ℕ) → In pile a → In pile b → word pile a 5 ≡ word pile b 5
 same-count pile s a b h g = deal-words (restFrom pile a) (restFrom pile b) (s .one-deal a b h g) .2
 
 module _ (pile : List ℕ) (room w : ℕ) (t : Joins pile room w) where

@@ -7,7 +7,7 @@ use native.Mathlib.Numerals.{add-one}
 use native.Mathlib.Omega.{arith}
 use native.Mathlib.Decide.{decLt}
 use lib.Dec.{lit<}
-use lib.ListN.{length, getD, set, drop, take, List·getD-eq-default, length-append, replicate}
+use lib.ListN.{length, getD, set, drop, take, List·getD-eq-default}
 use lib.Seq.{drop-cons, set-at, append-snoc, take-at}
 use Rattle.answer.specs.Lent.{over}
 use Rattle.field.specs.Poly.{p, run, Below}
@@ -35,7 +35,7 @@ over-end f n i old out e h =
     h ∙ ap (λ (x : ℕ). run f 1 x ++ drop x old) e ∙ ap (λ (x : ℕ). run f 1 n ++ drop x old) (sym (run-length f 1 n))
 
 -- what was written stands in front
-pub over-front : (new old : List ℕ) (k : ℕ) → length new ≡ k → take k (over new old) ≡ new
+over-front : (new old : List ℕ) (k : ℕ) → length new ≡ k → take k (over new old) ≡ new
 unfolding over
 over-front new old k e = take-at new (drop (length new) old) k e
 
@@ -60,16 +60,12 @@ column-below pile i f l h = record { each = λ j. go j (decLt j (pieceCount pile
     go j (no m) = rw (List·getD-eq-default (column pile i) 0 {n = j} (omega (arith, column-length pile i))) (lit< tt)
 
 -- ---- what a function that is lent the first k values of a column goes by
-module _ (pile values : List ℕ) (k i : ℕ) (f : Full pile) (e : k ≡ pieceCount pile) (is : values ≡ over (column pile i) (replicate 70 0)) where
+module _ (pile old values : List ℕ) (k i : ℕ) (e : k ≡ pieceCount pile) (is : values ≡ over (column pile i) old) where
   few : length (column pile i) ≡ k
   few = column-length pile i ∙ sym e
 
   pub column-front : take k values ≡ column pile i
-  column-front = ap (take k) is ∙ over-front (column pile i) (replicate 70 0) k few
-
-  pub column-fits : k ≤ length values
-  unfolding over
-  column-fits = omega (arith, ap length is ∙ length-append (column pile i) (drop (length (column pile i)) (replicate 70 0)), few)
+  column-front = ap (take k) is ∙ over-front (column pile i) old k few
 
   pub column-counts : k ≡ length (take k values)
   column-counts = sym (ap length column-front ∙ few)

@@ -28,7 +28,7 @@ use Rattle.joining.proofs.EnoughLaws.{enough-short, enough-none}
 use Rattle.joining.proofs.ChainLaws.{accepted, true-blocks}
 
 -- ---- two lists of words are the same exactly where the test says so
-pub words-are : (xs ys : List ℕ) → sameWords xs ys ≡ true → xs ≡ ys
+words-are : (xs ys : List ℕ) → sameWords xs ys ≡ true → xs ≡ ys
 unfolding sameWords
 words-are [] [] e = refl
 words-are [] (y ∷ ys) e = absurd (false≢true e)
@@ -133,7 +133,7 @@ sound-passes pile s = (
   passed-one (found-none (no-mixed pile s)) (passed-one (found-none (no-conflict pile s)) passed-none),
 )
 
-pub sound-rest : (pile : List ℕ) (room : ℕ) → Sound pile → joining pile room ≡ enough pile room
+sound-rest : (pile : List ℕ) (room : ℕ) → Sound pile → joining pile room ≡ enough pile room
 unfolding joining joinLines enough
 sound-rest pile room s =
     let r = sound-passes pile s in

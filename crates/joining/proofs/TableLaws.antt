@@ -22,7 +22,7 @@ pub table-end : (pile : List ℕ) → tableTo pile (blocks pile + 1) ≡ run (pl
 unfolding tableTo placeOf
 table-end pile = refl
 
-pub table-length : (pile : List ℕ) (a : ℕ) → length (tableTo pile a) ≡ 70
+table-length : (pile : List ℕ) (a : ℕ) → length (tableTo pile a) ≡ 70
 unfolding tableTo
 table-length pile a = run-length (λ j. firstIn (hasPiece pile j) 1 a) 1 70
 
@@ -40,7 +40,7 @@ table-other : (pile : List ℕ) (a j : ℕ) → 1 ≤ a → j ≢ pieceAt pile a
 table-other pile a j l h = sym (miss-end (hasPiece pile j) a l (ne-eqb (pieceAt pile a) j (λ e. h (sym e))))
 
 -- the piece of block a was met before
-pub table-kept : (pile : List ℕ) (a : ℕ) → 1 ≤ a → 1 ≤ pieceAt pile a → pieceAt pile a ≤ 70 → getD (tableTo pile a) (pieceAt pile a - 1) 0 ≢ 0
+table-kept : (pile : List ℕ) (a : ℕ) → 1 ≤ a → 1 ≤ pieceAt pile a → pieceAt pile a ≤ 70 → getD (tableTo pile a) (pieceAt pile a - 1) 0 ≢ 0
     → tableTo pile a ≡ tableTo pile (a + 1)
 table-kept pile a l m n h =
     unfold tableTo in
@@ -51,7 +51,7 @@ table-kept pile a l m n h =
     go j u v (no f) = table-other pile a j l f
 
 -- it was not
-pub table-new : (pile : List ℕ) (a : ℕ) → 1 ≤ a → 1 ≤ pieceAt pile a → pieceAt pile a ≤ 70 → getD (tableTo pile a) (pieceAt pile a - 1) 0 ≡ 0
+table-new : (pile : List ℕ) (a : ℕ) → 1 ≤ a → 1 ≤ pieceAt pile a → pieceAt pile a ≤ 70 → getD (tableTo pile a) (pieceAt pile a - 1) 0 ≡ 0
     → set (tableTo pile a) (pieceAt pile a - 1) a ≡ tableTo pile (a + 1)
 table-new pile a l m n h =
     unfold tableTo in

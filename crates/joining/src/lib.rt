@@ -191,33 +191,40 @@ fn check(pile: &[u8], room: usize) -> Answer
     enough(pile, &table, room)
 }
 
-// Value i of each piece 1 to k, that of piece j at j - 1, and 0 past them.
-fn column(pile: &[u8], table: &[usize; 70], i: usize) -> [u16; 70]
+// Value i of each piece 1 to k over the front of `values`, that of piece j at j - 1.
+fn write_column(pile: &[u8], table: &[usize; 70], i: usize, values: &mut [u16])
     requires { ⌜ Full (now pile) ⌝ }
     requires { ⌜ now table ≡ run (placeOf (now pile)) 1 70 ⌝ }
     requires { ⌜ (1 ≤ i) × (i ≤ width (now pile)) ⌝ }
-    ensures { λ r. ⌜ r ≡ over (column (now (pile .entry)) i) (replicate 70 0) ⌝ }
+    requires { ⌜ pieceCount (now pile) ≤ length (now values) ⌝ }
+    ensures { λ _. ⌜ now (values .exit) ≡ over (column (now (pile .entry)) i) (now (values .entry)) ⌝ }
 {
     let k = word(pile, 1, 5) as usize;
-    let mut values = [0u16; 70];
     let mut j: usize = 0;
     while j < k {
         values[j] = word(pile, table[j], 7 + i);
         j += 1;
     }
-    values
 }
 
-// Word i of the secret: what the values i of the pieces join to.
-fn secret_word(pile: &[u8], table: &[usize; 70], weights: &[u16; 70], i: usize) -> u16
+// Word i of the secret: what the values i of the pieces join to. They go over the front of `values`, which is made once for a pile.
+fn secret_word(
+    pile: &[u8],
+    table: &[usize; 70],
+    weights: &[u16; 70],
+    i: usize,
+    values: &mut [u16],
+) -> u16
     requires { ⌜ Full (now pile) ⌝ }
     requires { ⌜ now table ≡ run (placeOf (now pile)) 1 70 ⌝ }
     requires { ⌜ now weights ≡ weightsOf (pieceCount (now pile)) ⌝ }
     requires { ⌜ (1 ≤ i) × (i ≤ width (now pile)) ⌝ }
-    ensures { λ r. ⌜ r ≡ joined (column (now (pile .entry)) i) ⌝ }
+    requires { ⌜ pieceCount (now pile) ≤ length (now values) ⌝ }
+    ensures says { λ r. ⌜ r ≡ joined (column (now (pile .entry)) i) ⌝ }
+    ensures leaves { λ r. ⌜ now (values .exit) ≡ over (column (now (pile .entry)) i) (now (values .entry)) ⌝ }
 {
     let k = word(pile, 1, 5) as usize;
-    let values = column(pile, table, i);
+    write_column(pile, table, i, values);
     field::join_word(&values[..k], weights)
 }
 
@@ -229,10 +236,11 @@ fn write_secret(pile: &[u8], out: &mut [u16])
 {
     let table = places(pile);
     let weights = field::weights(word(pile, 1, 5) as usize);
+    let mut values = [0u16; 70];
     let w = word(pile, 1, 6) as usize;
     let mut i: usize = 0;
     while i < w {
-        out[i] = secret_word(pile, &table, &weights, i + 1);
+        out[i] = secret_word(pile, &table, &weights, i + 1, &mut values);
         i += 1;
     }
 }

@@ -1,52 +1,52 @@
--- `joining::column` meets its contract. The invariant: the values of pieces 1 to j stand in front, and zeros after them.
+-- `joining::write_column` meets its contract. The invariant: the values of pieces 1 to j stand in front.
 -- Assumes nothing.
 use native.Mathlib.Omega.{arith}
 use borrow.Author.Needs.{needs}
 use mathlib.Core.Path.{_≡_, refl, ap, _∙_}
 use mathlib.Core.List.{_++_}
 use Prim.Native.Nat.{ℕ, _+_, _-_, _≤_}
-use lib.ListN.{length, getD, drop, replicate, length-set, length-replicate}
+use lib.ListN.{length, getD, drop, length-set}
 use Rattle.field.specs.Poly.{run}
 use Rattle.joining.specs.Pile.{blocks, pieceCount, placeOf, valueOf}
 use Rattle.joining.specs.Secret.{column}
 use Rattle.joining.proofs.PileLaws.{pieces-in, width-in}
 use Rattle.joining.proofs.TableLaws.{place-next, place-most}
 use Rattle.joining.proofs.SecretLaws.{over-on, over-end}
-use Rattle.joining.proofs.column.Statement.{statement}
-use Rattle.joining.proofs.column.Tie as tie
+use Rattle.joining.proofs.write_column.Statement.{statement}
+use Rattle.joining.proofs.write_column.Tie as tie
 
 abbrev Inv-loop : tie.InvT-loop
-Inv-loop pile table i k values₀ j₀ values j =
-    (k ≡ pieceCount pile) × (k ≤ 70) × (j ≤ k) × (length values ≡ 70)
-    × (values ≡ run (λ m. valueOf pile (placeOf pile m) i) 1 j ++ drop j (replicate 70 0))
+Inv-loop pile table i values₀ k j₀ values j =
+    (k ≡ pieceCount pile) × (k ≤ 70) × (j ≤ k) × (length values ≡ length values₀)
+    × (values ≡ run (λ m. valueOf pile (placeOf pile m) i) 1 j ++ drop j values₀)
 
 abbrev μ-loop : tie.MeasureT-loop
-μ-loop pile table i k values₀ j₀ values j = k - j
+μ-loop pile table i values₀ k j₀ values j = k - j
 
 -- the piece's place: what the table says, and that it is a block
 place : (c : tie.In-loop Inv-loop μ-loop)
-    → getD (c .before .before .before .before .args .table .now) (c .before .loop .j) 0 ≡ placeOf (c .before .before .before .before .args .pile .now) (c .before .loop .j + 1)
+    → getD (c .before .before .before .before .before .args .table .now) (c .before .loop .j) 0 ≡ placeOf (c .before .before .before .before .before .args .pile .now) (c .before .loop .j + 1)
 place c =
-    let d = c .before .before .before .before in
+    let d = c .before .before .before .before .before in
     place-next (d .args .pile .now) (d .args .table .now) (c .before .loop .j) (omega arith) (d .pre .1 .0)
 
 there : (c : tie.In-loop Inv-loop μ-loop)
-    → (1 ≤ getD (c .before .before .before .before .args .table .now) (c .before .loop .j) 0)
-    × (getD (c .before .before .before .before .args .table .now) (c .before .loop .j) 0 ≤ blocks (c .before .before .before .before .args .pile .now))
+    → (1 ≤ getD (c .before .before .before .before .before .args .table .now) (c .before .loop .j) 0)
+    × (getD (c .before .before .before .before .before .args .table .now) (c .before .loop .j) 0 ≤ blocks (c .before .before .before .before .before .args .pile .now))
 there c =
-    let d = c .before .before .before .before in
+    let d = c .before .before .before .before .before in
     let l = c .before .loop in
     let e = place c in
     (omega (arith, e, d .pre .0 .place (l .j + 1) (omega arith) (omega arith)), omega (arith, e, place-most (d .args .pile .now) (l .j + 1)))
 
 -- the value's number
-value : (c : tie.In-loop Inv-loop μ-loop) → c .before .before .before .before .args .i ≤ 16
+value : (c : tie.In-loop Inv-loop μ-loop) → c .before .before .before .before .before .args .i ≤ 16
 value c =
-    let d = c .before .before .before .before in
-    omega (arith, d .pre .1 .1 .1, width-in (d .args .pile .now) (d .pre .0 .blocks-true) (d .pre .0 .some) .1)
+    let d = c .before .before .before .before .before in
+    omega (arith, d .pre .1 .1 .0 .1, width-in (d .args .pile .now) (d .pre .0 .blocks-true) (d .pre .0 .some) .1)
 
 word-requires : tie.Need-word-requires Inv-loop μ-loop
-word-requires c κs = (omega arith, c .before .pre .0 .some, omega arith, omega arith)
+word-requires c κs = (omega arith, c .before .before .pre .0 .some, omega arith, omega arith)
 
 cast-k : tie.Need-cast-k Inv-loop μ-loop
 cast-k c = search needs
@@ -54,7 +54,7 @@ cast-k c = search needs
 loop-holds : tie.Need-loop-holds Inv-loop μ-loop
 unfolding run
 loop-holds c =
-    let d = c .before .before in
+    let d = c .before .before .before in
     let e = c .word .ensures in
     (e, omega (arith, e, pieces-in (d .args .pile .now) (d .pre .0 .blocks-true) (d .pre .0 .some) .1), omega arith, refl, refl)
 
@@ -73,8 +73,10 @@ word-requires-2 c κs = (there (c .before) .0, there (c .before) .1, omega arith
 mul-values : tie.Need-mul-values Inv-loop μ-loop
 mul-values c = omega arith
 
-array-write-values : tie.Need-array-write-values Inv-loop μ-loop
-array-write-values c = omega arith
+slice-write-values : tie.Need-slice-write-values Inv-loop μ-loop
+slice-write-values c =
+    let d = c .before .before .before .before .before .before .before in
+    omega (arith, d .pre .1 .1 .1)
 
 add-j : tie.Need-add-j Inv-loop μ-loop
 add-j c = omega arith
@@ -86,26 +88,29 @@ loop-again : tie.Need-loop-again Inv-loop μ-loop
 loop-again c =
     let t = c .before .before in
     let l = t .before .loop in
-    let d = t .before .before .before .before in
+    let d = t .before .before .before .before .before in
     let p = d .args .pile .now in (
       l .inv .0,
       l .inv .1,
       omega arith,
       length-set (l .values) (l .j) (c .word2 .result) ∙ l .inv .3,
-      over-on (λ m. valueOf p (placeOf p m) (d .args .i)) (replicate 70 0) (l .values) (l .j) (c .word2 .result) (omega (arith, length-replicate {A = ℕ} 70 0))
+      over-on (λ m. valueOf p (placeOf p m) (d .args .i)) (d .args .values .now) (l .values) (l .j) (c .word2 .result) (omega (arith, d .pre .1 .1 .1))
           (c .word2 .ensures ∙ ap (λ (a : ℕ). valueOf p a (d .args .i)) (place t)) (l .inv .4),
     )
+
+same-length : tie.Need-same-length Inv-loop μ-loop
+same-length c = c .before .loop .inv .3
 
 returns : tie.Need-returns Inv-loop μ-loop
 unfolding column
 returns c =
     let l = c .before in
-    let d = l .before .before .before in
+    let d = l .before .before .before .before in
     let p = d .args .pile .now in
-    over-end (λ m. valueOf p (placeOf p m) (d .args .i)) (pieceCount p) (l .loop .j) (replicate 70 0) (l .loop .values) (omega arith) (l .loop .inv .4)
+    over-end (λ m. valueOf p (placeOf p m) (d .args .i)) (pieceCount p) (l .loop .j) (d .args .values .now) (l .loop .values) (omega arith) (l .loop .inv .4)
 
-pub column-spec : {M : Type 1} → statement M
-column-spec =
+pub write-column-spec : {M : Type 1} → statement M
+write-column-spec =
     tie.close
     (tie.spec
     Inv-loop
@@ -118,8 +123,9 @@ column-spec =
     add-word
     word-requires-2
     mul-values
-    array-write-values
+    slice-write-values
     add-j
     loop-less
     loop-again
+    same-length
     returns)

@@ -17,11 +17,12 @@ use Rattle.joining.proofs.write_secret.Statement.{statement}
 use Rattle.joining.proofs.write_secret.Tie as tie
 
 abbrev Inv-loop : tie.InvT-loop
-Inv-loop pile out₀ table weights w i₀ out i =
-    (w ≡ width pile) × (i ≤ w) × (w ≤ length out₀) × (length out ≡ length out₀) × (out ≡ run (λ m. joined (column pile m)) 1 i ++ drop i out₀)
+Inv-loop pile out₀ table weights values₀ w i₀ out values i =
+    (w ≡ width pile) × (i ≤ w) × (w ≤ length out₀) × (length out ≡ length out₀) × (length values ≡ 70)
+    × (out ≡ run (λ m. joined (column pile m)) 1 i ++ drop i out₀)
 
 abbrev μ-loop : tie.MeasureT-loop
-μ-loop pile out₀ table weights w i₀ out i = w - i
+μ-loop pile out₀ table weights values₀ w i₀ out values i = w - i
 
 places-requires : tie.Need-places-requires Inv-loop μ-loop
 places-requires c κs = c .before .before .pre .0 .blocks-true
@@ -47,17 +48,20 @@ loop-holds : tie.Need-loop-holds Inv-loop μ-loop
 unfolding run
 loop-holds c =
     let d = c .before .before .before .before .before .before in
-    (c .word2 .ensures, omega arith, omega (arith, c .word2 .ensures, d .pre .1), refl, refl)
+    (c .word2 .ensures, omega arith, omega (arith, c .word2 .ensures, d .pre .1), refl, refl, refl)
 
 add-secret-word : tie.Need-add-secret-word Inv-loop μ-loop
 add-secret-word c = omega arith
 
+slice-aggregate-secret-word : tie.Need-slice-aggregate-secret-word Inv-loop μ-loop
+slice-aggregate-secret-word c = search needs
+
 secret-word-requires : tie.Need-secret-word-requires Inv-loop μ-loop
 secret-word-requires c κs =
-    let l = c .before .before .before in
+    let l = c .before .before .before .before in
     let w = l .before .before .before in
     let d = w .before .before .before .before in
-    (d .pre .0, (w .before .places .ensures, (l .before .before .weights .ensures ∙ ap weightsOf (w .word .ensures), (omega arith, omega arith))))
+    (d .pre .0, (w .before .places .ensures, (l .before .before .weights .ensures ∙ ap weightsOf (w .word .ensures), ((omega arith, omega arith), omega (arith, l .loop .inv .4, pieces-in (d .args .pile .now) (d .pre .0 .blocks-true) (d .pre .0 .some) .1)))))
 
 mul-out : tie.Need-mul-out Inv-loop μ-loop
 mul-out c = omega arith
@@ -73,14 +77,15 @@ loop-less c = omega arith
 
 loop-again : tie.Need-loop-again Inv-loop μ-loop
 loop-again c =
-    let l = c .before .before .before .before in
+    let l = c .before .before .before .before .before .before in
     let d = l .before .before .before .before .before .before .before in
     let v = l .loop .inv in (
       v .0,
       omega arith,
       v .2,
-      length-set (l .loop .out) (l .loop .i) (c .secret-word .result) ∙ v .3,
-      over-on (λ m. joined (column (d .args .pile .now) m)) (d .args .out .now) (l .loop .out) (l .loop .i) (c .secret-word .result) (omega arith) (c .secret-word .ensures) (v .4),
+      length-set (l .loop .out) (l .loop .i) (c .before .secret-word .result) ∙ v .3,
+      omega arith,
+      over-on (λ m. joined (column (d .args .pile .now) m)) (d .args .out .now) (l .loop .out) (l .loop .i) (c .before .secret-word .result) (omega arith) (c .before .secret-word .ensures .0) (v .5),
     )
 
 same-length : tie.Need-same-length Inv-loop μ-loop
@@ -92,7 +97,7 @@ returns c =
     let l = c .before in
     let d = l .before .before .before .before .before .before .before in
     let p = d .args .pile .now in
-    over-end (λ m. joined (column p m)) (width p) (l .loop .i) (d .args .out .now) (l .loop .out) (omega arith) (l .loop .inv .4)
+    over-end (λ m. joined (column p m)) (width p) (l .loop .i) (d .args .out .now) (l .loop .out) (omega arith) (l .loop .inv .5)
 
 pub write-secret-spec : {M : Type 1} → statement M
 write-secret-spec =
@@ -108,6 +113,7 @@ write-secret-spec =
     cast-w
     loop-holds
     add-secret-word
+    slice-aggregate-secret-word
     secret-word-requires
     mul-out
     slice-write-out
