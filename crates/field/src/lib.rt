@@ -32,7 +32,7 @@ pub fn piece_of(d: u16, coefficients: &[u16], j: u16) -> u16
 }
 
 // The inverse of a, by the remainders of 32749.
-pub fn invert(a: u16) -> u16
+fn invert(a: u16) -> u16
     requires { ⌜ 0 < a % p ⌝ }
     ensures { λ r. ⌜ r ≡ inverse a ⌝ }
 {
