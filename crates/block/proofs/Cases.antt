@@ -10,7 +10,7 @@ use Rattle.block.specs.Words.{wordAt, bytesOf, weighted, checkOf}
 use Rattle.block.specs.Written.{body, blockBytes, Buildable}
 
 -- "policy P1, deal 7, P7, holder 4: block words 1987, 7, 4, 4, 3, 1, 1, 1246, zeros, check 12025"
-abbrev pub p11-words : Words
+abbrev p11-words : Words
 p11-words = record { mark = 1987; deal = 7; holder = 4; people = 4; pieces = 3; width = 1; piece = 1 }
 
 pub p11 : blockBytes p11-words (1246 ∷ []) ≡ bytesOf (1987 ∷ 7 ∷ 4 ∷ 4 ∷ 3 ∷ 1 ∷ 1 ∷ 1246 ∷ replicate 247 0 ++ 12025 ∷ [])

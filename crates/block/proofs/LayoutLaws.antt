@@ -28,7 +28,7 @@ range-in : (low v high : ℕ) → low ≤ v → v ≤ high → within low v high
 range-in low v high l h = simp (le-leb low v l, le-leb v high h)
 
 -- ---- a word past the header
-pub right-rest : (b : List ℕ) (i : ℕ) → 8 ≤ i → rightAt b i ≡ (leb i (7 + widthOf b) || eqb (wordAt b i) 0)
+right-rest : (b : List ℕ) (i : ℕ) → 8 ≤ i → rightAt b i ≡ (leb i (7 + widthOf b) || eqb (wordAt b i) 0)
 unfolding rightAt
 right-rest b i l =
     simp (

@@ -27,7 +27,7 @@ use Rattle.cases.specs.Plain.{set}
 use Rattle.cases.specs.Table.{deal11, words11, pile12}
 
 -- holder 4 has one block
-pub one-block : blockCount deal11 4 ≡ 1
+one-block : blockCount deal11 4 ≡ 1
 unfolding blockCount held planning.held holds groupsBy those maximalBy tight authorised some each inside member set
 one-block = refl
 

@@ -24,7 +24,7 @@ use Rattle.dealing.specs.Rows.{Inputs, Ready, heldIn, wordsFor, blockFor
 
 -- ---- the pieces held, row by row; rows count from 0
 -- the row does not mark the holder
-abbrev pub free : List (List Bool) → ℕ → ℕ → Bool
+abbrev free : List (List Bool) → ℕ → ℕ → Bool
 free rows holder row = not (getD (getD rows row []) (holder - 1) false)
 
 module _ (rows : List (List Bool)) (holder : ℕ) where

@@ -27,7 +27,7 @@ abbrev pub linesFor : Deal → ℕ → List Line
 linesFor d holder = inputLines (d .policy .people) (pieceCount d) (d .number) holder (d .secret) (d .random)
 
 -- what planning answers of a deal's policy
-abbrev pub plannedFor : Deal → Outcome ℕ
+abbrev plannedFor : Deal → Outcome ℕ
 plannedFor d = planned (d .policy .people) (d .policy .required) (d .policy .forbidden)
 
 -- ---- a plan that is refused

@@ -42,7 +42,7 @@ pub record InRange (d : Deal) : Type 0 where
   pub random-in : Random (length (d .secret)) (pieceCount d) (d .random)
 
 -- with a holder it is what a card is written from
-pub ready : (d : Deal) → InRange d → (holder : ℕ) → 1 ≤ holder → holder ≤ d .policy .people → Ready (inputsFor d holder)
+ready : (d : Deal) → InRange d → (holder : ℕ) → 1 ≤ holder → holder ≤ d .policy .people → Ready (inputsFor d holder)
 ready d f holder l u =
     record {
       few = f .few;
@@ -61,7 +61,7 @@ unfolding planned pieceCount
 plan-accepts d p = passed-done (planLines (d .policy .people) (d .policy .required) (d .policy .forbidden)) (done (pieceCount d)) p
 
 -- ---- a card was dealt, so everything passed
-pub made-lines : (d : Deal) (m : Made d)
+made-lines : (d : Deal) (m : Made d)
     → Passed (planLines (d .policy .people) (d .policy .required) (d .policy .forbidden))
     × Passed (linesFor d (m .holder))
     × Passed (noRoom (blockCount d (m .holder)) (m .room) ∷ [])
@@ -72,7 +72,7 @@ made-lines d m =
     let q = passed-append (linesFor d (m .holder)) (p .1) in
     (p .0, q .0, q .1)
 
-pub made-ready : (d : Deal) (m : Made d) → Ready (inputsFor d (m .holder))
+made-ready : (d : Deal) (m : Made d) → Ready (inputsFor d (m .holder))
 made-ready d m =
     let p = made-lines d m in
     let f = plan-few d (plan-accepts d (p .0)) in

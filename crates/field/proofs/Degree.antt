@@ -16,14 +16,14 @@ abbrev pub rise : (ℕ → ℕ) → ℕ → ℕ
 rise f x = minus (f (suc x)) (f x)
 
 -- f is a polynomial of degree below n, mod p
-abbrev pub Deg : ℕ → (ℕ → ℕ) → Type 0
+abbrev Deg : ℕ → (ℕ → ℕ) → Type 0
 Deg zero f = (x : ℕ) → f x ≈ 0
 Deg (suc n) f = Deg n (rise f)
 
 rise≈ : (f : ℕ → ℕ) (x : ℕ) → rise f x ≈ f (suc x) + 32748 * f x
 rise≈ f x = minus≈ (f (suc x)) (f x)
 
-pub deg-same : (n : ℕ) (f g : ℕ → ℕ) → ((x : ℕ) → f x ≈ g x) → Deg n f → Deg n g
+deg-same : (n : ℕ) (f g : ℕ → ℕ) → ((x : ℕ) → f x ≈ g x) → Deg n f → Deg n g
 deg-same zero f g e d = λ x. flip (e x) then d x
 deg-same (suc n) f g e d =
     deg-same n (rise f) (rise g) (λ x. rise≈ f x then add≈ (e (suc x)) (mul≈ 32748 (e x)) then flip (rise≈ g x)) d
@@ -50,7 +50,7 @@ deg-mulx (suc n) f h =
     (λ x. add≈ (from≡ refl) (mul≈ x (rise≈ f x)) then from≡ (parts x (f (suc x)) (f x)) then flip (rise≈ (λ y. y * f y) x))
     (deg-add (suc n) (λ x. f (suc x)) (λ x. x * rise f x) (deg-suc (suc n) f h) (deg-mulx n (rise f) h))
 
-pub value-deg : (cs : List ℕ) → Deg (length cs) (value cs)
+value-deg : (cs : List ℕ) → Deg (length cs) (value cs)
 unfolding value
 value-deg [] = λ x. from≡ refl
 value-deg (c ∷ cs) =

@@ -64,7 +64,7 @@ times i a x v h =
     open-up u = omega arith
 
 -- the loose polynomial at x is the product at x by the product at 0
-pub loose-product : (m x n : ℕ) → n < p → product m 0 n * value (1 ∷ loose m n) x ≈ product m x n
+loose-product : (m x n : ℕ) → n < p → product m 0 n * value (1 ∷ loose m n) x ≈ product m x n
 unfolding product loose value
 loose-product m x zero l = omega arith
 loose-product m x (suc n) l = go (eqb (suc n) m) (loose-product m x n (omega arith))

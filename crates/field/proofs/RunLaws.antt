@@ -14,7 +14,7 @@ unfolding run
 run-length f x zero = refl
 run-length f x (suc n) = ap suc (run-length f (suc x) n)
 
-pub run-from : (f : ℕ → ℕ) (x n i : ℕ) → i < n → getD (run f x n) i 0 ≡ f (x + i)
+run-from : (f : ℕ → ℕ) (x n i : ℕ) → i < n → getD (run f x n) i 0 ≡ f (x + i)
 unfolding run
 run-from f x zero i l = absurd (not-suc-le-zero l)
 run-from f x (suc n) zero l = ap f (sym (add-zero x))

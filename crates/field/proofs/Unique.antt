@@ -47,7 +47,7 @@ coefficients (c ∷ cs) (d ∷ ds) e l a b h =
     rest j g = omega (arith, first)
 
 -- the pieces through which a polynomial goes are its points
-pub through-points : (cs ys : List ℕ) → Through cs ys → ys ≡ points cs 1 (length cs)
+through-points : (cs ys : List ℕ) → Through cs ys → ys ≡ points cs 1 (length cs)
 through-points cs ys t = run-is (λ j. value cs j % p) (length cs) ys (sym (t .degree)) (λ j l h. t .meets j l (omega (arith, t .degree)))
 
 pub joined-value : (cs ys : List ℕ) → Through cs ys → joined ys ≡ value cs 0 % p

@@ -28,7 +28,7 @@ unfolding authorised
 authorised-required required s m = in-some (λ r. inside r s) required s m (inside-refl s)
 
 -- ---- maximal groups
-pub maximal-un : (n : ℕ) (required : List ℕ) (g : ℕ) → maximal n required g ≡ true → authorised required g ≡ false
+maximal-un : (n : ℕ) (required : List ℕ) (g : ℕ) → maximal n required g ≡ true → authorised required g ≡ false
 unfolding maximalBy
 maximal-un n required g t = not-so (authorised required g) (both (not (authorised required g)) (tight (authorised required) n g) t .0)
 

@@ -19,7 +19,7 @@ unfolding rowsOf marks member
 empty-rows = refl
 
 -- ---- one row more
-pub rows-more : (l : List ℕ) (k g : ℕ) → k ≡ length l → k < 70 → set (rowsOf l) k (marks g) ≡ rowsOf (l ++ g ∷ [])
+rows-more : (l : List ℕ) (k g : ℕ) → k ≡ length l → k < 70 → set (rowsOf l) k (marks g) ≡ rowsOf (l ++ g ∷ [])
 unfolding rowsOf
 rows-more l k g e p =
     let left : 70 - length l ≡ suc (70 - (length l + 1)) = omega arith in

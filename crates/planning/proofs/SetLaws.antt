@@ -17,7 +17,7 @@ use Rattle.answer.proofs.Truth.{never, decided, surely, or-cases, or-l, or-r, n
 use Rattle.planning.proofs.EachLaws.{each-at, each-of, each-fails}
 
 -- ---- binary digits: bit p is the digit worth 2 ^ p
-abbrev pub bit : ℕ → ℕ → ℕ
+abbrev bit : ℕ → ℕ → ℕ
 bit p s = s / 2 ^ p % 2
 
 bit-lt : (p s : ℕ) → bit p s < 2
@@ -88,7 +88,7 @@ inside-at a b t i l h m =
     ⊎-elim (λ (u : not (member i a) ≡ true). absurd (never (not-so (member i a) u) m)) (λ (u : member i b ≡ true). u)
     (or-cases (not (member i a)) (member i b) (each-at 16 (λ (j : ℕ). not (member j a) || member j b) t i l h))
 
-pub inside-of : (a b : ℕ) → ((i : ℕ) → 1 ≤ i → i ≤ 16 → member i a ≡ true → member i b ≡ true) → inside a b ≡ true
+inside-of : (a b : ℕ) → ((i : ℕ) → 1 ≤ i → i ≤ 16 → member i a ≡ true → member i b ≡ true) → inside a b ≡ true
 unfolding inside
 inside-of a b f =
     each-of 16 (λ (j : ℕ). not (member j a) || member j b)

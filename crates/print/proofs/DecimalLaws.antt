@@ -25,11 +25,11 @@ below a b = go (ltb a b) refl
     go false e = inr (ltb-false a b e)
 
 -- ---- by the number's size
-pub digits-one : (most n : ℕ) → n < 10 → digits (suc most) n ≡ digit n ∷ []
+digits-one : (most n : ℕ) → n < 10 → digits (suc most) n ≡ digit n ∷ []
 unfolding digits
 digits-one most n h = simp (lt-ltb n 10 h)
 
-pub digits-more : (most n : ℕ) → 10 ≤ n → digits (suc most) n ≡ digits most (n / 10) ++ digit (n % 10) ∷ []
+digits-more : (most n : ℕ) → 10 ≤ n → digits (suc most) n ≡ digits most (n / 10) ++ digit (n % 10) ∷ []
 unfolding digits
 digits-more most n h = simp (le-ltb n 10 h)
 
@@ -84,12 +84,12 @@ unfoldable pub lastDigits : ℕ → ℕ → List ℕ
 lastDigits zero n = []
 lastDigits (suc k) n = lastDigits k (n / 10) ++ digit (n % 10) ∷ []
 
-pub length-last : (k n : ℕ) → length (lastDigits k n) ≡ k
+length-last : (k n : ℕ) → length (lastDigits k n) ≡ k
 unfolding lastDigits
 length-last zero n = refl
 length-last (suc k) n = omega (arith, length-append (lastDigits k (n / 10)) (digit (n % 10) ∷ []), length-last k (n / 10))
 
-pub all-last : (most n : ℕ) → digits most n ≡ lastDigits (length (digits most n)) n
+all-last : (most n : ℕ) → digits most n ≡ lastDigits (length (digits most n)) n
 unfolding digits lastDigits
 all-last zero n = refl
 all-last (suc most) n =

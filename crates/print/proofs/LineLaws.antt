@@ -19,7 +19,7 @@ unfolding spacedAll
 spaced-append [] ms = refl
 spaced-append (n ∷ ns) ms = ap (λ (l : List ℕ). spaced n ++ l) (spaced-append ns ms) ∙ sym (append-assoc (spaced n) (spacedAll ns) (spacedAll ms))
 
-pub spaced-end : (ns : List ℕ) (n : ℕ) → spacedAll (ns ++ n ∷ []) ≡ spacedAll ns ++ spaced n
+spaced-end : (ns : List ℕ) (n : ℕ) → spacedAll (ns ++ n ∷ []) ≡ spacedAll ns ++ spaced n
 unfolding spacedAll
 spaced-end ns n = spaced-append ns (n ∷ []) ∙ ap (λ (l : List ℕ). spacedAll ns ++ l) (append-nil (spaced n))
 

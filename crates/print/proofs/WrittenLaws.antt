@@ -16,7 +16,7 @@ pub written-none : (at : ℕ) (old : List ℕ) → written at [] old ≡ old
 unfolding written
 written-none at old = simp unary-clauses (take-append-drop at old)
 
-pub length-written : (at : ℕ) (new old : List ℕ) → Room new at old → length (written at new old) ≡ length old
+length-written : (at : ℕ) (new old : List ℕ) → Room new at old → length (written at new old) ≡ length old
 unfolding written
 length-written at new old h =
     let t : length (take at old) ≡ at = length-take-le at old (omega arith) in
@@ -40,7 +40,7 @@ stored-last at new old d h =
     rw (t, r, s, append-assoc)
 
 -- one byte more, stored behind the others
-pub stored-more : (at : ℕ) (new old : List ℕ) (d : ℕ) → at + length new < length old
+stored-more : (at : ℕ) (new old : List ℕ) (d : ℕ) → at + length new < length old
     → set (written at new old) (at + length new) d ≡ written at (new ++ d ∷ []) old
 unfolding written
 stored-more at new old d h =
@@ -57,7 +57,7 @@ stored-more at new old d h =
     )
 
 -- ---- two writes
-pub written-written : (at : ℕ) (new more old : List ℕ) → at + (length new + length more) ≤ length old
+written-written : (at : ℕ) (new more old : List ℕ) → at + (length new + length more) ≤ length old
     → written (at + length new) more (written at new old) ≡ written at (new ++ more) old
 unfolding written
 written-written at new more old h =

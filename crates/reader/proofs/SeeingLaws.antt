@@ -18,7 +18,7 @@ use Rattle.joining.proofs.PileLaws.{rest-long, part-rest}
 use Rattle.reader.specs.Seeing.{told, ended, byLeft, openingAt, seeing, after, hasBlock, valuesOf, valuesFrom, counted}
 
 -- ---- what is left
-pub left-at : (pile : List ℕ) (n : ℕ) → length (restFrom pile (n + 1)) ≡ length pile - 512 * n
+left-at : (pile : List ℕ) (n : ℕ) → length (restFrom pile (n + 1)) ≡ length pile - 512 * n
 unfolding restFrom
 left-at pile n = let e : n + 1 - 1 ≡ n = omega arith in rw e (length-drop (512 * n) pile)
 

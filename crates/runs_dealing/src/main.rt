@@ -216,10 +216,14 @@ fn eight(name: &[u8], holder: usize, room: usize) {
     case(name, 8, &sets, &none, 32748, holder, &secret, &random, room);
 }
 
-fn cards() {
+// P11's deal to each of its holders.
+fn holders() {
     for holder in 1..5 {
         one(b"P11, holder", 7, holder, 1234, 5, 7, 1536);
     }
+}
+
+fn cards() {
     one(b"P9, holder", 7, 2, 32748, 1, 0, 1536);
     one(b"P9, holder", 7, 3, 32748, 1, 0, 1536);
     one(
@@ -276,6 +280,7 @@ fn ranges() {
 }
 
 fn main() {
+    holders();
     cards();
     ranges();
     lengths();

@@ -29,7 +29,7 @@ tested : length (those right 0 256) ≡ 256
 unfolding those right numberOf marks member
 tested = refl
 
-pub number-marks : (g : ℕ) → g < 256 → numberOf (marks g) ≡ g
+number-marks : (g : ℕ) → g < 256 → numberOf (marks g) ≡ g
 number-marks g h = eqb-true (numberOf (marks g)) g (unfold right in those-all right 0 256 tested g zero-le (omega arith))
 
 -- ---- the rows of groups give the groups

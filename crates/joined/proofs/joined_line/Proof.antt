@@ -10,7 +10,6 @@ use Rattle.joining.specs.Joined.{joining}
 use Rattle.joining.specs.Secret.{joinedInto}
 use Rattle.print.specs.Written.{Prints}
 use Rattle.joined.proofs.JoinedLaws.{is-long, is-secret, is-refused, secret-fits, secret-counts}
-use borrow.Author.Needs.{needs}
 use Rattle.joined.proofs.joined_line.Statement.{statement}
 use Rattle.joined.proofs.joined_line.Tie as tie
 

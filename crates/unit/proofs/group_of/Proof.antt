@@ -3,7 +3,6 @@
 use native.Mathlib.Omega.{arith}
 use borrow.Author.Needs.{needs}
 use Rattle.unit.specs.Said.{numberOf}
-use borrow.Author.Needs.{needs}
 use Rattle.unit.proofs.group_of.Statement.{statement}
 use Rattle.unit.proofs.group_of.Tie as tie
 

@@ -11,7 +11,6 @@ use Rattle.block.specs.Open.{opening, opened, wordsOf}
 use Rattle.block.proofs.Laws.{opens-true}
 use Rattle.unit.specs.Said.{said, seven}
 use borrow.Author.Needs.{needs}
-use borrow.Author.Needs.{needs}
 use Rattle.unit.proofs.titmeadow_open.Statement.{statement}
 use Rattle.unit.proofs.titmeadow_open.Tie as tie
 

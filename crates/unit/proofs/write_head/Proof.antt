@@ -5,7 +5,6 @@ use denote.Ref.{now}
 use lib.ListN.{length-set}
 use borrow.Author.Needs.{needs}
 use Rattle.unit.proofs.RowLaws.{seven-over}
-use borrow.Author.Needs.{needs}
 use Rattle.unit.proofs.write_head.Statement.{statement}
 use Rattle.unit.proofs.write_head.Tie as tie
 
