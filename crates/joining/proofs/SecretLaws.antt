@@ -1,15 +1,16 @@
 -- A column and the secret, word by word: what the loops write over the front of a list, and that a column's values are below p.
 -- Assumes nothing.
-use mathlib.Core.Path.{_≡_, sym, ap, ap₂, _∙_}
+use mathlib.Core.Path.{_≡_, sym, ap, _∙_}
 use mathlib.Core.List.{List, [], _∷_, _++_}
-use Prim.Native.Nat.{ℕ, suc, _+_, _-_, _≤_, _<_}
+use Prim.Native.Nat.{ℕ, _+_, _-_, _≤_, _<_}
 use native.Mathlib.Numerals.{add-one}
 use native.Mathlib.Omega.{arith}
 use native.Mathlib.Decide.{decLt}
 use lib.Dec.{lit<}
 use lib.ListN.{length, getD, set, drop, take, List·getD-eq-default}
-use lib.Seq.{drop-cons, set-at, append-snoc, take-at}
+use lib.Seq.{take-at}
 use Rattle.answer.specs.Lent.{over}
+use Rattle.answer.proofs.LentLaws.{over-more}
 use Rattle.field.specs.Poly.{p, run, Below}
 use Rattle.field.proofs.RunLaws.{run-length, run-at, run-end}
 use Rattle.joining.specs.Pile.{pieceCount, width, placeOf, valueOf}
@@ -18,21 +19,14 @@ use Rattle.joining.specs.True.{Full}
 use Rattle.joining.proofs.PileLaws.{width-in, word-small}
 use Rattle.joining.proofs.TableLaws.{place-most}
 
--- ---- a run that is written over the front of a list, number by number
-pub over-on : (f : ℕ → ℕ) (old out : List ℕ) (i v : ℕ) → i < length old → v ≡ f (i + 1) → out ≡ run f 1 i ++ drop i old
-    → set out i v ≡ run f 1 (i + 1) ++ drop (i + 1) old
+-- ---- a run that is written over the front of a list: one number more
+pub over-on : (f : ℕ → ℕ) (old out : List ℕ) (i v : ℕ) → i < length old → v ≡ f (i + 1) → out ≡ over (run f 1 i) old
+    → set out i v ≡ over (run f 1 (i + 1)) old
 over-on f old out i v l e h =
     let s : 1 + i ≡ i + 1 = omega arith in
-    let n : run f 1 (i + 1) ≡ run f 1 i ++ (v ∷ []) = ap (run f 1) (add-one i) ∙ run-end f 1 i ∙ ap (λ (y : ℕ). run f 1 i ++ (y ∷ [])) (ap f s ∙ sym e) in
-    ap (λ (r : List ℕ). set r i v) (h ∙ ap (λ (r : List ℕ). run f 1 i ++ r) (drop-cons old i 0 l))
-    ∙ set-at (run f 1 i) (getD old i 0) (drop (suc i) old) v i (run-length f 1 i)
-    ∙ sym (append-snoc (run f 1 i) v (drop (suc i) old))
-    ∙ ap₂ (λ (a : List ℕ) (b : ℕ). a ++ drop b old) (sym n) (sym (add-one i))
-
-pub over-end : (f : ℕ → ℕ) (n i : ℕ) (old out : List ℕ) → i ≡ n → out ≡ run f 1 i ++ drop i old → out ≡ over (run f 1 n) old
-unfolding over
-over-end f n i old out e h =
-    h ∙ ap (λ (x : ℕ). run f 1 x ++ drop x old) e ∙ ap (λ (x : ℕ). run f 1 n ++ drop x old) (sym (run-length f 1 n))
+    let n : length (run f 1 i) ≡ i = run-length f 1 i in
+    let more : run f 1 (i + 1) ≡ run f 1 i ++ (v ∷ []) = ap (run f 1) (add-one i) ∙ run-end f 1 i ∙ ap (λ (y : ℕ). run f 1 i ++ (y ∷ [])) (ap f s ∙ sym e) in
+    ap (λ (r : List ℕ). set r i v) h ∙ (rw n at (over-more (run f 1 i) old v (omega arith))) ∙ ap (λ (r : List ℕ). over r old) (sym more)
 
 -- what was written stands in front
 over-front : (new old : List ℕ) (k : ℕ) → length new ≡ k → take k (over new old) ≡ new

@@ -2,17 +2,18 @@
 -- Assumes nothing.
 use mathlib.Core.Path.{_≡_, refl, sym, ap, ap₂, _∙_}
 use mathlib.Core.Bool.{Bool}
-use mathlib.Core.List.{List, [], _∷_, _++_, map, List·Memᴰ, List·Memᴰ·head, List·Memᴰ·tail}
-use Prim.Native.Nat.{ℕ, suc, _+_, _-_, _^_, _≤_, _<_, zero-le}
+use mathlib.Core.List.{List, [], _∷_, _++_, map, map-append, List·Memᴰ, List·Memᴰ·head, List·Memᴰ·tail}
+use Prim.Native.Nat.{ℕ, _+_, _-_, _^_, _≤_, _<_, zero-le}
 use native.Mathlib.Numerals.{add-one}
 use native.Mathlib.Omega.{arith}
 use lib.Dec.{eqb}
-use lib.ListN.{length, getD, set, take, drop, replicate, length-append, length-replicate}
+use lib.ListN.{length, getD, set, take, replicate, length-append, length-replicate, length-map}
 use borrow.Author.Tests.{eqb-true}
 use lib.Pow.{pow-mono}
-use lib.Seq.{take-suc, take-at, drop-cons, set-at, append-snoc, length-take-le}
+use lib.Seq.{take-suc, take-at, length-take-le}
 use Rattle.answer.specs.Outcome.{done}
 use Rattle.answer.specs.Lent.{over}
+use Rattle.answer.proofs.LentLaws.{over-more}
 use Rattle.answer.specs.Places.{those}
 use Rattle.answer.proofs.ThoseLaws.{in-those, those-all}
 use Rattle.planning.specs.Sets.{member, marks}
@@ -37,17 +38,13 @@ numbers : (l : List ℕ) → ((g : ℕ) → List·Memᴰ g l → g < 256) → ma
 numbers [] h = refl
 numbers (g ∷ l) h = ap₂ (λ (x : ℕ) (y : List ℕ). x ∷ y) (number-marks g (h g (List·Memᴰ·head refl))) (numbers l (λ s m. h s (List·Memᴰ·tail m)))
 
-map-length : (l : List ℕ) → length (map marks l) ≡ length l
-map-length [] = refl
-map-length (g ∷ l) = ap suc (map-length l)
-
 pub rows-numbers : (n : ℕ) (required forbidden : List ℕ) (k : ℕ) → planned n required forbidden ≡ done k
     → map numberOf (take k (plannedRows n required forbidden)) ≡ groups n required
 unfolding plannedRows rowsOf groupsBy
 rows-numbers n required forbidden k e =
     let l = groups n required in
     let few = accepted-listed n required forbidden k e .few in
-    let count : length (map marks l) ≡ k = map-length l ∙ sym (some-piece n required forbidden k e .0) in
+    let count : length (map marks l) ≡ k = length-map l marks ∙ sym (some-piece n required forbidden k e .0) in
     let most : 2 ^ n ≤ 2 ^ 8 = pow-mono few in
     ap (λ o. map numberOf (take k (rowsFor o l))) e
     ∙ ap (map numberOf) (take-at (map marks l) (replicate (70 - length l) (marks 0)) k count)
@@ -59,36 +56,16 @@ rows-seventy n required forbidden k e =
     let l = groups n required in
     let s = some-piece n required forbidden k e in
     ap (λ o. length (rowsFor o l)) e
-    ∙ omega (arith, length-append (map marks l) (replicate (70 - length l) (marks 0)), map-length l, length-replicate (70 - length l) (marks 0), s .0, s .2)
+    ∙ omega (arith, length-append (map marks l) (replicate (70 - length l) (marks 0)), length-map l marks, length-replicate (70 - length l) (marks 0), s .0, s .2)
 
 -- ---- the loop: one row more
-map-snoc : (rows : List (List Bool)) (row : List Bool) → map numberOf (rows ++ row ∷ []) ≡ map numberOf rows ++ numberOf row ∷ []
-map-snoc [] row = refl
-map-snoc (r ∷ rows) row = ap (λ (l : List ℕ). numberOf r ∷ l) (map-snoc rows row)
-
-numbers-length : (rows : List (List Bool)) → length (map numberOf rows) ≡ length rows
-numbers-length [] = refl
-numbers-length (r ∷ rows) = ap suc (numbers-length rows)
-
 pub write-on : (rows : List (List Bool)) (old now : List ℕ) (j v : ℕ) → j < length rows → j < length old → v ≡ numberOf (getD rows j [])
-    → now ≡ map numberOf (take j rows) ++ drop j old → set now j v ≡ map numberOf (take (j + 1) rows) ++ drop (j + 1) old
+    → now ≡ over (map numberOf (take j rows)) old → set now j v ≡ over (map numberOf (take (j + 1) rows)) old
 write-on rows old now j v h l e is =
     let done = map numberOf (take j rows) in
-    let n : length done ≡ j = numbers-length (take j rows) ∙ length-take-le j rows (omega arith) in
-    let more : map numberOf (take (j + 1) rows) ≡ done ++ v ∷ []
-    = ap (λ (x : ℕ). map numberOf (take x rows)) (add-one j) ∙ ap (map numberOf) (take-suc rows j [] h) ∙ map-snoc (take j rows) (getD rows j [])
-    ∙ ap (λ (x : ℕ). done ++ x ∷ []) (sym e) in
-    ap (λ (l : List ℕ). set l j v) (is ∙ ap (λ (l : List ℕ). done ++ l) (drop-cons old j 0 l))
-    ∙ set-at done (getD old j 0) (drop (suc j) old) v j n
-    ∙ sym (append-snoc done v (drop (suc j) old))
-    ∙ ap₂ (λ (a : List ℕ) (b : ℕ). a ++ drop b old) (sym more) (sym (add-one j))
-
-pub write-end : (rows : List (List Bool)) (old now : List ℕ) (k j : ℕ) → j ≡ k → k ≤ length rows → now ≡ map numberOf (take j rows) ++ drop j old
-    → now ≡ over (map numberOf (take k rows)) old
-unfolding over
-write-end rows old now k j e h is =
-    is ∙ ap (λ (x : ℕ). map numberOf (take x rows) ++ drop x old) e
-    ∙ ap (λ (x : ℕ). map numberOf (take k rows) ++ drop x old) (sym (numbers-length (take k rows) ∙ length-take-le k rows h))
+    let n : length done ≡ j = length-map (take j rows) numberOf ∙ length-take-le j rows (omega arith) in
+    let more : map numberOf (take (j + 1) rows) ≡ done ++ v ∷ [] = rw (add-one, take-suc rows j [] h, map-append, e) in
+    ap (λ (r : List ℕ). set r j v) is ∙ (rw n at (over-more done old v (omega arith))) ∙ ap (λ (r : List ℕ). over r old) (sym more)
 
 -- ---- seven words stored one by one over seven places
 pub seven-over : (a b c d e f g : ℕ) (old : List ℕ) → length old ≡ 7

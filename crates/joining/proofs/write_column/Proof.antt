@@ -3,22 +3,22 @@
 use native.Mathlib.Omega.{arith}
 use borrow.Author.Needs.{needs}
 use mathlib.Core.Path.{_≡_, refl, ap, _∙_}
-use mathlib.Core.List.{_++_}
 use Prim.Native.Nat.{ℕ, _+_, _-_, _≤_}
-use lib.ListN.{length, getD, drop, length-set}
+use lib.ListN.{length, getD, length-set}
+use Rattle.answer.specs.Lent.{over}
 use Rattle.field.specs.Poly.{run}
 use Rattle.joining.specs.Pile.{blocks, pieceCount, placeOf, valueOf}
 use Rattle.joining.specs.Secret.{column}
 use Rattle.joining.proofs.PileLaws.{pieces-in, width-in}
 use Rattle.joining.proofs.TableLaws.{place-next, place-most}
-use Rattle.joining.proofs.SecretLaws.{over-on, over-end}
+use Rattle.joining.proofs.SecretLaws.{over-on}
 use Rattle.joining.proofs.write_column.Statement.{statement}
 use Rattle.joining.proofs.write_column.Tie as tie
 
 abbrev Inv-loop : tie.InvT-loop
 Inv-loop pile table i values₀ k j₀ values j =
     (k ≡ pieceCount pile) × (k ≤ 70) × (j ≤ k) × (length values ≡ length values₀)
-    × (values ≡ run (λ m. valueOf pile (placeOf pile m) i) 1 j ++ drop j values₀)
+    × (values ≡ over (run (λ m. valueOf pile (placeOf pile m) i) 1 j) values₀)
 
 abbrev μ-loop : tie.MeasureT-loop
 μ-loop pile table i values₀ k j₀ values j = k - j
@@ -52,7 +52,7 @@ cast-k : tie.Need-cast-k Inv-loop μ-loop
 cast-k c = search needs
 
 loop-holds : tie.Need-loop-holds Inv-loop μ-loop
-unfolding run
+unfolding run over
 loop-holds c =
     let d = c .before .before .before in
     let e = c .word .ensures in
@@ -107,7 +107,8 @@ returns c =
     let l = c .before in
     let d = l .before .before .before .before in
     let p = d .args .pile .now in
-    over-end (λ m. valueOf p (placeOf p m) (d .args .i)) (pieceCount p) (l .loop .j) (d .args .values .now) (l .loop .values) (omega arith) (l .loop .inv .4)
+    let all : l .loop .j ≡ pieceCount p = omega arith in
+    l .loop .inv .4 ∙ ap (λ (n : ℕ). over (run (λ m. valueOf p (placeOf p m) (d .args .i)) 1 n) (d .args .values .now)) all
 
 pub write-column-spec : {M : Type 1} → statement M
 write-column-spec =

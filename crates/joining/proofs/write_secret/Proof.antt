@@ -3,23 +3,23 @@
 use native.Mathlib.Omega.{arith}
 use borrow.Author.Needs.{needs}
 use mathlib.Core.Path.{_≡_, refl, ap, _∙_}
-use mathlib.Core.List.{_++_}
-use Prim.Native.Nat.{_-_, _≤_}
-use lib.ListN.{length, drop, length-set}
+use Prim.Native.Nat.{ℕ, _-_, _≤_}
+use lib.ListN.{length, length-set}
+use Rattle.answer.specs.Lent.{over}
 use Rattle.field.specs.Poly.{run}
 use Rattle.field.specs.Joined.{joined}
 use Rattle.field.specs.Lagrange.{weightsOf}
 use Rattle.joining.specs.Pile.{width}
 use Rattle.joining.specs.Secret.{column, secret}
 use Rattle.joining.proofs.PileLaws.{pieces-in}
-use Rattle.joining.proofs.SecretLaws.{over-on, over-end}
+use Rattle.joining.proofs.SecretLaws.{over-on}
 use Rattle.joining.proofs.write_secret.Statement.{statement}
 use Rattle.joining.proofs.write_secret.Tie as tie
 
 abbrev Inv-loop : tie.InvT-loop
 Inv-loop pile out₀ table weights values₀ w i₀ out values i =
     (w ≡ width pile) × (i ≤ w) × (w ≤ length out₀) × (length out ≡ length out₀) × (length values ≡ 70)
-    × (out ≡ run (λ m. joined (column pile m)) 1 i ++ drop i out₀)
+    × (out ≡ over (run (λ m. joined (column pile m)) 1 i) out₀)
 
 abbrev μ-loop : tie.MeasureT-loop
 μ-loop pile out₀ table weights values₀ w i₀ out values i = w - i
@@ -45,7 +45,7 @@ cast-w : tie.Need-cast-w Inv-loop μ-loop
 cast-w c = search needs
 
 loop-holds : tie.Need-loop-holds Inv-loop μ-loop
-unfolding run
+unfolding run over
 loop-holds c =
     let d = c .before .before .before .before .before .before in
     (c .word2 .ensures, omega arith, omega (arith, c .word2 .ensures, d .pre .1), refl, refl, refl)
@@ -97,7 +97,8 @@ returns c =
     let l = c .before in
     let d = l .before .before .before .before .before .before .before in
     let p = d .args .pile .now in
-    over-end (λ m. joined (column p m)) (width p) (l .loop .i) (d .args .out .now) (l .loop .out) (omega arith) (l .loop .inv .5)
+    let all : l .loop .i ≡ width p = omega arith in
+    l .loop .inv .5 ∙ ap (λ (n : ℕ). over (run (λ m. joined (column p m)) 1 n) (d .args .out .now)) all
 
 pub write-secret-spec : {M : Type 1} → statement M
 write-secret-spec =

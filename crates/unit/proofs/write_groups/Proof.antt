@@ -1,22 +1,24 @@
 -- `unit::write_groups` meets its contract. The invariant: the groups of the first j rows are written.
 -- Assumes nothing.
-use mathlib.Core.Path.{_≡_, refl, sym, _∙_}
-use mathlib.Core.List.{map, _++_}
-use Prim.Native.Nat.{_-_, _≤_}
+use mathlib.Core.Path.{_≡_, refl, sym, ap, _∙_}
+use mathlib.Core.List.{map}
+use Prim.Native.Nat.{ℕ, _-_, _≤_}
 use native.Mathlib.Omega.{arith}
-use lib.ListN.{length, take, drop, length-set}
+use lib.ListN.{length, take, length-set}
+use Rattle.answer.specs.Lent.{over}
 use Rattle.unit.specs.Said.{numberOf}
-use Rattle.unit.proofs.RowLaws.{write-on, write-end}
+use Rattle.unit.proofs.RowLaws.{write-on}
 use Rattle.unit.proofs.write_groups.Statement.{statement}
 use Rattle.unit.proofs.write_groups.Tie as tie
 
 abbrev Inv-loop : tie.InvT-loop
-Inv-loop rows k groups₀ j₀ groups j = (j ≤ k) × (length groups ≡ 70) × (groups ≡ map numberOf (take j rows) ++ drop j groups₀)
+Inv-loop rows k groups₀ j₀ groups j = (j ≤ k) × (length groups ≡ 70) × (groups ≡ over (map numberOf (take j rows)) groups₀)
 
 abbrev μ-loop : tie.MeasureT-loop
 μ-loop rows k groups₀ j₀ groups j = k - j
 
 loop-holds : tie.Need-loop-holds Inv-loop μ-loop
+unfolding over
 loop-holds c = (omega arith, c .before .pre .2, refl)
 
 mul-row : tie.Need-mul-row Inv-loop μ-loop
@@ -58,7 +60,8 @@ returns : tie.Need-returns Inv-loop μ-loop
 returns c =
     let l = c .before in
     let d = l .before .before in
-    write-end (d .args .rows .now) (d .args .groups .now) (l .loop .groups) (d .args .k) (l .loop .j) (omega arith) (omega (arith, d .pre)) (l .loop .inv .2)
+    let all : l .loop .j ≡ d .args .k = omega arith in
+    l .loop .inv .2 ∙ ap (λ (n : ℕ). over (map numberOf (take n (d .args .rows .now))) (d .args .groups .now)) all
 
 pub write-groups-spec : {M : Type 1} → statement M
 write-groups-spec =
