@@ -1,7 +1,7 @@
 -- The layout: the words past the header, and that no word is wrong exactly where the layout is kept.
 -- Assumes nothing.
 use mathlib.Core.Path.{_≡_, refl, sym, ap, _∙_}
-use mathlib.Core.Bool.{Bool, true, false, not, _&&_, _||_}
+use mathlib.Core.Bool.{Bool, true, false, not, _||_}
 use mathlib.Core.List.{List}
 use Prim.Native.Nat.{ℕ, zero, suc, _+_, _≤_}
 use native.Mathlib.Nat.{not-suc-le-zero, pos-of-ne-zero}
@@ -10,19 +10,14 @@ use native.Mathlib.Omega.{arith}
 use lib.Dec.{leb, eqb}
 use borrow.Author.Tests.{leb-true, leb-false, le-leb, lt-leb, eqb-true, eqb-false, eq-eqb, ne-eqb, not-false}
 use Rattle.answer.specs.Places.{firstIn}
-use Rattle.answer.proofs.FirstLaws.{first-none, first-all, none-in}
+use Rattle.answer.proofs.Truth.{both, not-so}
+use Rattle.answer.proofs.FirstLaws.{first-none, first-all, none-in, skip, first-same}
 use Rattle.block.specs.Words.{wordAt}
 use Rattle.block.specs.Layout.{widthOf, within, rightAt, filled, firstWrong, Layout}
-use Rattle.answer.proofs.FirstLaws.{skip, first-same}
 
--- ---- two tests in one
-and-both : (x y : Bool) → x && y ≡ true → (x ≡ true) × (y ≡ true)
-and-both true y e = (refl, e)
-and-both false true e = (e, refl)
-and-both false false e = (e, e)
-
+-- ---- a word in its range
 in-range : (low v high : ℕ) → within low v high ≡ true → (low ≤ v) × (v ≤ high)
-in-range low v high e = let r = and-both (leb low v) (leb v high) e in (leb-true low v (r .0), leb-true v high (r .1))
+in-range low v high e = let r = both (leb low v) (leb v high) e in (leb-true low v (r .0), leb-true v high (r .1))
 
 range-in : (low v high : ℕ) → low ≤ v → v ≤ high → within low v high ≡ true
 range-in low v high l h = simp (le-leb low v l, le-leb v high h)
@@ -66,11 +61,11 @@ unfolding rightAt firstWrong
 layout-of b z =
     let r : (i : ℕ) → 1 ≤ i → i ≤ 255 → rightAt b i ≡ true = λ i l h.
     not-false (rightAt b i) (none-in (λ k. not (rightAt b k)) 1 256 (omega arith) z i l (omega arith)) in
-    let r₄ = and-both (within 1 (wordAt b 4) 8) (leb (wordAt b 3) (wordAt b 4)) (r 4 (omega arith) (omega arith)) in
+    let r₄ = both (within 1 (wordAt b 4) 8) (leb (wordAt b 3) (wordAt b 4)) (r 4 (omega arith) (omega arith)) in
     let n₄ = in-range 1 (wordAt b 4) 8 (r₄ .0) in
     record {
       mark = eqb-true (wordAt b 1) 1987 (r 1 (omega arith) (omega arith));
-      deal = pos-of-ne-zero (eqb-false (wordAt b 2) 0 (not-true (eqb (wordAt b 2) 0) (r 2 (omega arith) (omega arith))));
+      deal = pos-of-ne-zero (eqb-false (wordAt b 2) 0 (not-so (eqb (wordAt b 2) 0) (r 2 (omega arith) (omega arith))));
       holder = in-range 1 (wordAt b 3) 8 (r 3 (omega arith) (omega arith));
       people = (n₄ .0, n₄ .1, leb-true (wordAt b 3) (wordAt b 4) (r₄ .1));
       pieces = in-range 1 (wordAt b 5) 70 (r 5 (omega arith) (omega arith));
@@ -79,10 +74,6 @@ layout-of b z =
       zeros = λ i l h.
           eqb-true (wordAt b i) 0 (simp (lt-leb i (7 + widthOf b) (omega arith)) at (sym (right-rest b i (omega arith)) ∙ r i (omega arith) h));
     }
-  where
-    not-true : (x : Bool) → not x ≡ true → x ≡ false
-    not-true true e = sym e
-    not-true false e = refl
 
 -- and the other way, word by word
 layout-right : (b : List ℕ) → Layout b → (i : ℕ) → 1 ≤ i → i ≤ 255 → rightAt b i ≡ true

@@ -14,7 +14,7 @@ abbrev made : ℕ → ℕ → ℕ → ℕ → ℕ → ℕ → ℕ → Words
 made mark deal holder people pieces width piece =
     record { mark = mark; deal = deal; holder = holder; people = people; pieces = pieces; width = width; piece = piece }
 
-words-one : (h k : Words) → wordsOf h ≡ wordsOf k → h ≡ k
+pub words-one : (h k : Words) → wordsOf h ≡ wordsOf k → h ≡ k
 words-one h k e =
     let q : made (h .mark) (h .deal) (h .holder) (h .people) (h .pieces) (h .width) (h .piece)
     ≡ made (k .mark) (k .deal) (k .holder) (k .people) (k .pieces) (k .width) (k .piece) = cc in

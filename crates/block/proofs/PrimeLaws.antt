@@ -3,8 +3,7 @@
 use mathlib.Core.Path.{_≡_, refl, sym, ap, _∙_}
 use mathlib.Core.Logic.{⊎-elim}
 use Prim.Native.Nat.{ℕ, zero, suc, _+_, _*_, _/_, _%_, _≤_, _<_}
-use native.Mathlib.Nat.{le-refl, eq-or-lt-of-le, pos-of-ne-zero, mul-assoc, mul-right-comm, add-mul}
-use native.Mathlib.Nat.{mod-lt, mod-add-div, div-add-mod, mul-mod-right, add-mul-mod-self-left}
+use native.Mathlib.Nat.{le-refl, eq-or-lt-of-le, pos-of-ne-zero, mul-assoc, mul-right-comm, add-mul, mod-lt, mod-add-div, div-add-mod, mul-mod-right, add-mul-mod-self-left}
 use native.Mathlib.Omega.{arith}
 use lib.Dec.{eqb}
 use borrow.Author.Tests.{eqb-false}

@@ -8,8 +8,7 @@ use Rattle.answer.specs.Outcome.{Outcome, done}
 use Rattle.answer.specs.Checks.{firstFail}
 use Rattle.answer.specs.Places.{those}
 use Rattle.field.specs.Poly.{Below}
-use Rattle.field.specs.Pieces.{Random}
-use Rattle.field.specs.Pieces.{values as valuesIn}
+use Rattle.field.specs.Pieces.{Random, values as valuesIn}
 use Rattle.planning.specs.Groups.{marked}
 use Rattle.block.specs.declared.Words.{Words}
 use Rattle.block.specs.Written.{blockBytes}

@@ -2,8 +2,7 @@
 -- Assumes nothing.
 use Prim.Native.Nat.{ℕ, _*_, _≤_, zero-le}
 use mathlib.Core.Path.{_≡_, refl, sym, ap, subst, _∙_}
-use mathlib.Core.List.{List, [], _∷_, _++_, List·Memᴰ, List·Memᴰ·head, List·Memᴰ·tail, List·Memᴰ·not-nil, List·Memᴰ·cases-cons}
-use mathlib.Core.List.{List·Memᴰ·append-cases, Memᴰ·append-left, Memᴰ·append-right, Memᴰ·of-map}
+use mathlib.Core.List.{List, [], _∷_, _++_, List·Memᴰ, List·Memᴰ·head, List·Memᴰ·tail, List·Memᴰ·not-nil, List·Memᴰ·cases-cons, List·Memᴰ·append-cases, Memᴰ·append-left, Memᴰ·append-right, Memᴰ·of-map}
 use mathlib.Core.Logic.{⊎-elim}
 use native.Mathlib.Omega.{arith}
 use lib.ListN.{length, length-append}
@@ -14,9 +13,10 @@ use Rattle.planning.specs.Groups.{_∈_, holds}
 use Rattle.dealing.specs.Deal.{Deal, pieceCount, held, blockOf, flat, cardBlocks, card}
 use Rattle.dealing.specs.Dealt.{Made, blockCount}
 use Rattle.dealing.proofs.MadeLaws.{InRange, made-in-range, block-length, card-length}
+use Rattle.dealing.proofs.CardLaws.{flat-append}
 use Rattle.demands.specs.Group.{Member, WholeCards, cards, members}
 use Rattle.demands.proofs.GroupLaws.{in-members, members-in}
-use Rattle.demands.proofs.FlatLaws.{Long, flat-append, flat-length}
+use Rattle.demands.proofs.FlatLaws.{Long, flat-length}
 
 module _ (d : Deal) where
   -- the blocks of these holders' cards

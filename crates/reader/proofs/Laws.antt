@@ -9,10 +9,9 @@ use lib.ListN.{length}
 use Rattle.answer.specs.Outcome.{Outcome, done, refused, number}
 use Rattle.answer.proofs.OneLaws.{refusal-one}
 use Rattle.answer.proofs.CheckLaws.{never-both, passed, passed-none, passed-one, passed-append, passed-both, passed-done, done-passed}
-use Rattle.block.specs.declared.Words.{Words}
 use Rattle.block.specs.declared.Opened.the-variants as opens
 use Rattle.block.specs.Open.{opening, wordsOf, valueBytes, valueStart}
-use Rattle.block.proofs.OneLaws.{opened-one}
+use Rattle.block.proofs.OneLaws.{words-one}
 use Rattle.block.specs.Laws as opens-law
 use Rattle.block.proofs.OpenLaws.{opening-block, true-opens, which-refusals as opens-which}
 use Rattle.block.proofs.ValueLaws as value
@@ -27,9 +26,6 @@ use Rattle.reader.proofs.SeeingLaws.{counted-lines, counted-opening, se
 use Rattle.reader.proofs.ReadingLaws.{not-ended}
 
 -- ---- one answer
-words-one : (h k : Words) → wordsOf h ≡ wordsOf k → h ≡ k
-words-one h k e = let q : opens.Head h ≡ opens.Head k = opened-one (opens.Head h) (opens.Head k) (ap done e) in cc
-
 pub sight-one : law.SightOne
 sight-one (Head h) (Head k) e = let q : wordsOf h ≡ wordsOf k = cc in ap Head (words-one h k q)
 sight-one (Head h) (Refused s) e = cc

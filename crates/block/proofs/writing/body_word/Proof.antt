@@ -1,10 +1,9 @@
 -- `block::writing::body_word` meets its contract, arm by arm. Assumes nothing.
 use Prim.Native.Nat.{_≤_}
-use Rattle.block.proofs.BodyLaws.{past-seven}
+use Rattle.block.proofs.BodyLaws.{past-seven, body-value, body-zero}
 use denote.Ref.{now}
 use mathlib.Core.Path.{sym}
 use Rattle.block.specs.Written.{body}
-use Rattle.block.proofs.BodyLaws.{body-value, body-zero}
 use borrow.Author.Needs.{needs}
 use Rattle.block.proofs.writing.body_word.Statement.{statement}
 use Rattle.block.proofs.writing.body_word.Tie as tie
