@@ -13,15 +13,16 @@ use lib.Seq.{getD-at}
 use Rattle.answer.specs.Places.{those}
 
 -- ---- what stands in a list
-pub at-in : (l : List ℕ) (j : ℕ) → j < length l → List·Memᴰ (getD l j 0) l
-at-in [] j h = absurd (not-suc-le-zero h)
-at-in (a ∷ l) zero h = List·Memᴰ·head refl
-at-in (a ∷ l) (suc j) h = List·Memᴰ·tail (at-in l j (le-of-suc-le-suc h))
+pub at-in : {A : Type 0} (d : A) (l : List A) (j : ℕ) → j < length l → List·Memᴰ (getD l j d) l
+at-in d [] j h = absurd (not-suc-le-zero h)
+at-in d (a ∷ l) zero h = List·Memᴰ·head refl
+at-in d (a ∷ l) (suc j) h = List·Memᴰ·tail (at-in d l j (le-of-suc-le-suc h))
 
-pub in-at : (l : List ℕ) (s : ℕ) → List·Memᴰ s l → (j : ℕ) × (j < length l) × (getD l j 0 ≡ s)
-in-at [] s m = absurd (List·Memᴰ·not-nil m)
-in-at (a ∷ l) s m =
-    ⊎-elim (λ e. (zero, suc-le-suc zero-le, sym e)) (λ (k : List·Memᴰ s l). let r = in-at l s k in (suc (r .0), suc-le-suc (r .1), r .2)) (List·Memᴰ·cases-cons m)
+pub in-at : {A : Type 0} (d : A) (l : List A) (s : A) → List·Memᴰ s l → (j : ℕ) × (j < length l) × (getD l j d ≡ s)
+in-at d [] s m = absurd (List·Memᴰ·not-nil m)
+in-at d (a ∷ l) s m =
+    ⊎-elim (λ (e : s ≡ a). (zero, suc-le-suc zero-le, sym e)) (λ (k : List·Memᴰ s l). let r = in-at d l s k in (suc (r .0), suc-le-suc (r .1), r .2))
+    (List·Memᴰ·cases-cons m)
 
 module _ (test : ℕ → Bool) (i : ℕ) where
   -- ---- one number more
@@ -125,7 +126,7 @@ rises-more : (l : List ℕ) (c : ℕ) → ((s : ℕ) → List·Memᴰ s l → s 
 rises-more l c below h = record {
   rise = λ a b p q.
       ⊎-elim (λ (e : b ≡ length l).
-      rw (getD-at l c [] 0 b (sym e), List·getD-append l (c ∷ []) 0 a (omega arith)) (below (getD l a 0) (at-in l a (omega arith))))
+      rw (getD-at l c [] 0 b (sym e), List·getD-append l (c ∷ []) 0 a (omega arith)) (below (getD l a 0) (at-in 0 l a (omega arith))))
       (λ (r : b < length l). rw (List·getD-append l (c ∷ []) 0 a (omega arith), List·getD-append l (c ∷ []) 0 b r) (h .rise a b p r))
       (eq-or-lt-of-le (le-of-suc-le-suc (omega (arith, length-append l (c ∷ [])))));
 }

@@ -87,7 +87,7 @@ module _ (d : Deal) (f : InRange d) (g : ℕ) (group : Group d g) (pile : List �
   none-held z =
       ⊎-elim (λ (e : 0 ≡ length (gathered d g)). sym e)
       (λ (h : 0 < length (gathered d g)).
-      let m = in-those (gathers d g) 1 (pieceCount d) (getD (gathered d g) 0 0) (at-in (gathered d g) 0 h) in
+      let m = in-those (gathers d g) 1 (pieceCount d) (getD (gathered d g) 0 0) (at-in 0 (gathered d g) 0 h) in
       let w = gathers-who d g (getD (gathered d g) 0 0) (m .0) (omega (arith, m .1)) (m .2) in
       let a = r .all (w .0) (getD (gathered d g) 0 0) (w .1) (w .2) in
       absurd (omega (arith, a .1 .0, a .1 .1)))
@@ -100,7 +100,7 @@ module _ (d : Deal) (f : InRange d) (g : ℕ) (group : Group d g) (pile : List �
       let t = r .theirs 1 (le-refl 1, some) in
       let h = held-in d (t .who) (t .which) (t .has) in
       let m = those-in (gathers d g) 1 (pieceCount d) (t .which) (h .0) (omega (arith, h .1)) (gathers-by d g (t .who) (t .which) (t .in-group) (t .has)) in
-      omega (arith, in-at (gathered d g) (t .which) m .1)
+      omega (arith, in-at 0 (gathered d g) (t .which) m .1)
 
   -- ---- a piece is lacking
   module _ (n : ¬ Contains d g) (room : ℕ) where

@@ -5,7 +5,7 @@ use mathlib.Core.Path.{_≡_, refl, sym, ap, _∙_}
 use mathlib.Core.List.{List, [], _∷_, _++_, map, Memᴰ·of-map}
 use native.Mathlib.Nat.{not-suc-le-zero, le-of-suc-le-suc}
 use native.Mathlib.Omega.{arith}
-use lib.ListN.{length, getD, drop}
+use lib.ListN.{length, getD, drop, length-map}
 use Rattle.answer.specs.Places.{at}
 use Rattle.answer.proofs.ThoseLaws.{at-in}
 use Rattle.dealing.specs.Deal.{Deal, held, blockOf, cardBlocks, card}
@@ -20,10 +20,6 @@ map-at f [] a h = absurd (not-suc-le-zero h)
 map-at f (x ∷ l) zero h = refl
 map-at f (x ∷ l) (suc a) h = map-at f l a (le-of-suc-le-suc h)
 
-map-count : (f : ℕ → List ℕ) (l : List ℕ) → length (map f l) ≡ length l
-map-count f [] = refl
-map-count f (x ∷ l) = ap suc (map-count f l)
-
 module _ (d : Deal) (f : InRange d) (holder : ℕ) (least : 1 ≤ holder) (most : holder ≤ d .policy .people) where
   card-long : Long (cardBlocks d holder)
   unfolding cardBlocks
@@ -35,7 +31,7 @@ module _ (d : Deal) (f : InRange d) (holder : ℕ) (least : 1 ≤ holder) (most 
   unfolding card cardBlocks
   block-at a l u =
       let j = at (held d holder) a in
-      let r = flat-drop (cardBlocks d holder) card-long (a - 1) (omega (arith, map-count (blockOf d holder) (held d holder))) in
+      let r = flat-drop (cardBlocks d holder) card-long (a - 1) (omega (arith, length-map (held d holder) (blockOf d holder))) in
       let q : drop (512 * (a - 1)) (card d holder) ≡ blockOf d holder j ++ r .0
       = r .1 ∙ ap (λ (b : List ℕ). b ++ r .0) (map-at (blockOf d holder) (held d holder) (a - 1) (omega arith)) in
-      rw q (card-block d f holder j least most (at-in (held d holder) (a - 1) (omega arith)) (r .0))
+      rw q (card-block d f holder j least most (at-in 0 (held d holder) (a - 1) (omega arith)) (r .0))

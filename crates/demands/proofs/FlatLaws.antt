@@ -1,28 +1,14 @@
 -- Blocks of 512 bytes laid one after another: how long they are, and where each begins.
 -- Assumes nothing.
-use Prim.Native.Nat.{ℕ, zero, suc, _+_, _*_, _<_, suc-le-suc, zero-le}
-use mathlib.Core.Path.{_≡_, refl, sym, _∙_}
-use mathlib.Core.List.{List, [], _∷_, _++_, List·Memᴰ, List·Memᴰ·head, List·Memᴰ·tail, List·Memᴰ·not-nil, List·Memᴰ·cases-cons}
-use mathlib.Core.Logic.{⊎-elim}
+use Prim.Native.Nat.{ℕ, zero, suc, _+_, _*_, _<_}
+use mathlib.Core.Path.{_≡_, refl, _∙_}
+use mathlib.Core.List.{List, [], _∷_, _++_, List·Memᴰ, List·Memᴰ·head, List·Memᴰ·tail}
 use native.Mathlib.Nat.{not-suc-le-zero, le-of-suc-le-suc}
 use native.Mathlib.Omega.{arith}
 use lib.ListN.{length, getD, drop, length-append}
 use lib.Seq.{drop-append-add}
 use Rattle.dealing.specs.Deal.{flat}
 
--- ---- what stands in a list of blocks
-pub block-in : (bs : List (List ℕ)) (a : ℕ) → a < length bs → List·Memᴰ (getD bs a []) bs
-block-in [] a h = absurd (not-suc-le-zero h)
-block-in (b ∷ bs) zero h = List·Memᴰ·head refl
-block-in (b ∷ bs) (suc a) h = List·Memᴰ·tail (block-in bs a (le-of-suc-le-suc h))
-
-pub in-block : (bs : List (List ℕ)) (b : List ℕ) → List·Memᴰ b bs → (a : ℕ) × (a < length bs) × (getD bs a [] ≡ b)
-in-block [] b m = absurd (List·Memᴰ·not-nil m)
-in-block (c ∷ bs) b m =
-    ⊎-elim (λ (e : b ≡ c). (zero, suc-le-suc zero-le, sym e)) (λ (k : List·Memᴰ b bs). let r = in-block bs b k in (suc (r .0), suc-le-suc (r .1), r .2))
-    (List·Memᴰ·cases-cons m)
-
--- ---- one after another
 -- each of them has 512 bytes
 pub record Long (bs : List (List ℕ)) : Type 0 where
   pub long : (b : List ℕ) → List·Memᴰ b bs → length b ≡ 512

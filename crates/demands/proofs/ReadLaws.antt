@@ -10,7 +10,7 @@ use lib.ListN.{length, getD, drop}
 use borrow.Author.Tests.{ne-eqb}
 use Rattle.answer.specs.Places.{found}
 use Rattle.answer.proofs.FirstLaws.{first-all, found-some, found-none}
-use Rattle.answer.proofs.ThoseLaws.{those-same}
+use Rattle.answer.proofs.ThoseLaws.{those-same, at-in, in-at}
 use Rattle.field.proofs.Laws.{values-at}
 use Rattle.planning.specs.Groups.{_∈_}
 use Rattle.answer.proofs.Truth.{never}
@@ -27,7 +27,7 @@ use Rattle.demands.specs.Group.{Member, WholeCards, gathers, gathered}
 use Rattle.demands.specs.Demand2.{CardBlock}
 use Rattle.demands.proofs.GroupLaws.{gathers-by, gathers-who}
 use Rattle.demands.proofs.BlockLaws.{block-true, card-block}
-use Rattle.demands.proofs.FlatLaws.{Long, block-in, in-block, flat-length, flat-drop}
+use Rattle.demands.proofs.FlatLaws.{Long, flat-length, flat-drop}
 
 -- b begins with the block of a piece that a member of the group holds
 pub record Theirs (d : Deal) (g : ℕ) (b : List ℕ) : Type 0 where
@@ -80,11 +80,11 @@ module _ (d : Deal) (f : InRange d) (g : ℕ) (pile : List ℕ) (w : WholeCards 
     few = omega (arith, size, w .few);
     theirs = λ a h.
         let u : a ≤ length (w .blocks) = omega (arith, size, h .1) in
-        let r = whose (getD (w .blocks) (a - 1) []) (block-in (w .blocks) (a - 1) (omega (arith, h .0))) in
+        let r = whose (getD (w .blocks) (a - 1) []) (at-in [] (w .blocks) (a - 1) (omega (arith, h .0))) in
         let s = at-block a (r .0) (r .1) (h .0) u (r .2) (r .3) (r .4) in
         record { who = r .0; which = r .1; in-group = r .2; has = r .3; says = s .0; is-true = s .1 };
     all = λ i j m has.
-        let b = in-block (w .blocks) (blockOf d i j) (w .whole i m (blockOf d i j) (Memᴰ·map (blockOf d i) has)) in
+        let b = in-at [] (w .blocks) (blockOf d i j) (w .whole i m (blockOf d i j) (Memᴰ·map (blockOf d i) has)) in
         let back : suc (b .0) - 1 ≡ b .0 = omega arith in
         let s = at-block (suc (b .0)) i j (omega arith) (b .1) m has (ap (λ (x : ℕ). getD (w .blocks) x []) back ∙ b .2) in
         (suc (b .0), (omega arith, omega (arith, size, b .1)), s .0 .piece-is);

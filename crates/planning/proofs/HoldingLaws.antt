@@ -58,13 +58,13 @@ module _ (n : ℕ) (required : List ℕ) where
   pub piece-maximal : (j : ℕ) → 1 ≤ j → j ≤ pieceCount n required → (groupOf n required j < 2 ^ n) × (maximal n required (groupOf n required j) ≡ true)
   unfolding groupsBy
   piece-maximal j l h =
-      let r = in-those (maximal n required) 0 (2 ^ n) (groupOf n required j) (at-in (groups n required) (j - 1) (omega arith)) in
+      let r = in-those (maximal n required) 0 (2 ^ n) (groupOf n required j) (at-in 0 (groups n required) (j - 1) (omega arith)) in
       (omega (arith, r .1), r .2)
 
   pub maximal-piece : (g : ℕ) → g < 2 ^ n → maximal n required g ≡ true → (j : ℕ) × (1 ≤ j) × (j ≤ pieceCount n required) × (groupOf n required j ≡ g)
   unfolding groupsBy
   maximal-piece g h t =
-      let r = in-at (groups n required) g (those-in (maximal n required) 0 (2 ^ n) g zero-le (omega arith) t) in
+      let r = in-at 0 (groups n required) g (those-in (maximal n required) 0 (2 ^ n) g zero-le (omega arith) t) in
       (suc (r .0), omega arith, r .1, ap (λ (x : ℕ). getD (groups n required) x 0) (back (r .0)) ∙ r .2)
 
   pub groups-are : (g : ℕ) → ((g < 2 ^ n) × (maximal n required g ≡ true)) ↔ ((j : ℕ) × (1 ≤ j) × (j ≤ pieceCount n required) × (groupOf n required j ≡ g))

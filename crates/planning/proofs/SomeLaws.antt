@@ -35,11 +35,11 @@ module _ (test : ℕ → Bool) where
       ⊎-elim
       (λ (z : eqb p 0 ≡ true). rw z (isn't (λ t.
       let r = some-in l t in
-      let j = in-at l (r .0) (r .1) in
+      let j = in-at 0 l (r .0) (r .1) in
       never (ap test (sym (j .2)) ∙ place-lacks test l (eqb-true _ _ z) (j .0) (j .1)) (r .2))))
       (λ (z : eqb p 0 ≡ false).
       let h = place-has test l (eqb-false _ _ z) in
-      rw z (in-some l (at l p) (at-in l (p - 1) (omega (arith, h .1, place-most test l))) (h .0)))
+      rw z (in-some l (at l p) (at-in 0 l (p - 1) (omega (arith, h .1, place-most test l))) (h .0)))
       (decided (eqb p 0))
 
   -- where none is found, no set of the list has the test

@@ -41,7 +41,7 @@ rising-grows f i = rw (add-one i)
 -- ---- how long it is
 those-short : (t : ℕ → Bool) (w n : ℕ) → n < 10 ^ suc w → length (spacedAll (those t 1 n)) ≤ (w + 2) * length (those t 1 n)
 those-short t w n h =
-    all-few w (those t 1 n) (λ i l. omega (arith, in-those t 1 n (getD (those t 1 n) i 0) (at-in (those t 1 n) i l) .1))
+    all-few w (those t 1 n) (λ i l. omega (arith, in-those t 1 n (getD (those t 1 n) i 0) (at-in 0 (those t 1 n) i l) .1))
 
 label-short : (word more : List ℕ) (w n : ℕ) → n < 10 ^ suc w → length (label word n more) ≤ length word + (w + 2) + length more
 unfolding label
