@@ -9,18 +9,26 @@ ghost use Rattle.field.specs.Joined.{joined};
 ghost use Rattle.field.specs.Inverse.{inverse};
 ghost use Rattle.field.specs.Lagrange.{lagrangeWeight, Weights, weightsOf};
 
-// The value at x of the polynomial with these coefficients, the lowest first: Horner's rule, from the highest down.
+// v, or its remainder where v is above 2^47: one turn of Horner's rule more, times at most 65535 and plus at most 32748, then fits.
+fn lower(v: u64) -> u64
+    ensures { λ r. ⌜ (r % p ≡ v % p) × (r ≤ 140737488355328) ⌝ }
+{
+    if v <= 140737488355328 { v } else { v % 32749 }
+}
+
+// The value at x of the polynomial with these coefficients, the lowest first: Horner's rule, from the highest down, with a remainder taken
+// only where the next turn needs it.
 fn value_at(coefficients: &[u16], x: u16) -> u32
     requires { ⌜ Below (now coefficients) ⌝ }
     ensures { λ r. ⌜ r ≡ value (now (coefficients .entry)) x % p ⌝ }
 {
-    let mut acc: u32 = 0;
+    let mut acc: u64 = 0;
     let mut i = coefficients.len();
     while 0 < i {
         i -= 1;
-        acc = (acc * (x as u32) + coefficients[i] as u32) % 32749;
+        acc = lower(acc) * (x as u64) + coefficients[i] as u64;
     }
-    acc
+    (acc % 32749) as u32
 }
 
 // Piece j of the word d with these coefficients.
