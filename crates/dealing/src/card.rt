@@ -3,15 +3,13 @@ use answer::Answer;
 use answer::Kind;
 use block::Words;
 ghost use mathlib.Core.Path.{_≡_};
-ghost use mathlib.Core.List.{[], _∷_, _++_};
+ghost use mathlib.Core.List.{_++_};
 ghost use Prim.Native.Nat.{_+_, _*_, _≤_};
 ghost use lib.ListN.{length, take, drop};
-ghost use Rattle.answer.specs.Outcome.{outcome, done};
-ghost use Rattle.answer.specs.Checks.{firstFail};
+ghost use Rattle.answer.specs.Outcome.{outcome};
 ghost use Rattle.answer.specs.Lent.{over, left};
 ghost use Rattle.field.specs.Poly.{Below};
 ghost use Rattle.field.specs.Pieces.{values};
-ghost use Rattle.dealing.specs.Dealt.{noRoom};
 ghost use Rattle.dealing.specs.Rows.{inputsOf, Ready, heldIn, blockFor, cardIn, roomSays};
 
 // How many of the first k rows do not mark the holder.

@@ -5,11 +5,9 @@ mod checks;
 
 use answer::Answer;
 ghost use mathlib.Core.Path.{_≡_};
-ghost use mathlib.Core.List.{[], _∷_, _++_};
 ghost use Prim.Native.Nat.{_≤_};
 ghost use lib.ListN.{length};
-ghost use Rattle.answer.specs.Outcome.{outcome, done};
-ghost use Rattle.answer.specs.Checks.{firstFail};
+ghost use Rattle.answer.specs.Outcome.{outcome};
 ghost use Rattle.answer.specs.Lent.{left};
 ghost use Rattle.dealing.specs.Deal.{dealOf};
 ghost use Rattle.dealing.specs.Dealt.{dealing, dealtInto};

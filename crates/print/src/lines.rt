@@ -1,6 +1,5 @@
 // The refusal line and the secret line, written into a lent buffer.
-ghost use mathlib.Core.Path.{_≡_};
-ghost use lib.ListN.{length, take};
+ghost use lib.ListN.{take};
 ghost use Rattle.answer.specs.Outcome.{number};
 ghost use Rattle.print.specs.Written.{Room, Writes, Prints};
 ghost use Rattle.print.specs.Lines.{spaced, spacedAll, refusedLine, secretLine};

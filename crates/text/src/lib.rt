@@ -1,10 +1,9 @@
 // The listing that the listing program prints, written into a lent buffer (document 01, "The two programs").
 use answer::Answer;
-ghost use mathlib.Core.Path.{_≡_};
-ghost use mathlib.Core.Bool.{Bool, false, cond, not};
-ghost use mathlib.Core.List.{List, [], _∷_};
-ghost use Prim.Native.Nat.{ℕ, _-_, _≤_, _<_};
-ghost use lib.ListN.{take, getD};
+ghost use mathlib.Core.Bool.{false, cond, not};
+ghost use mathlib.Core.List.{[], _∷_};
+ghost use Prim.Native.Nat.{_-_, _≤_, _<_};
+ghost use lib.ListN.{getD};
 ghost use Rattle.answer.specs.Places.{those};
 ghost use Rattle.planning.specs.Groups.{marked};
 ghost use Rattle.print.specs.Written.{Room, Writes, Prints};
