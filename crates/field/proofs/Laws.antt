@@ -23,6 +23,9 @@ inverse-right a h = (prime.inverse-right a (pos-of-ne-zero h) .same, prime.inver
 pub values-at : law.ValuesAt
 values-at q ds rs j i l h = values.values-at q ds rs j (i - 1) (omega arith)
 
+pub zeros-too : law.ZerosToo
+zeros-too = values.zeros-too
+
 pub values-fit : law.ValuesFit
 values-fit q ds rs j = (values.values-length q ds rs j, values.values-below q ds rs j)
 

@@ -4,7 +4,7 @@ use mathlib.Core.Path.{_≡_}
 use mathlib.Core.Logic.{_≢_}
 use mathlib.Core.List.{List, _∷_}
 use Prim.Native.Nat.{ℕ, _-_, _*_, _%_, _≤_, _<_}
-use lib.ListN.{length, getD, take, drop}
+use lib.ListN.{length, getD, take, drop, replicate}
 use Rattle.field.specs.Poly.{p, Below, value, piece, run, Through, One}
 use Rattle.field.specs.Pieces.{values, Random, Matched, Paired, Gives}
 use Rattle.field.specs.Joined.{joined}
@@ -24,6 +24,10 @@ InverseRight = (a : ℕ) → a % p ≢ 0 → (a * inverse a % p ≡ 1) × (inver
 abbrev pub ValuesAt : Type 0
 ValuesAt = (q : ℕ) (ds rs : List ℕ) (j i : ℕ) → 1 ≤ i → i ≤ length ds
     → getD (values q ds rs j) (i - 1) 0 ≡ piece (getD ds (i - 1) 0) (take q (drop ((i - 1) * q) rs)) j
+
+-- Every coefficient may be zero, the highest too: zeros alone are randomness like any other.
+abbrev pub ZerosToo : Type 0
+ZerosToo = (w k : ℕ) → Random w k (replicate (w * (k - 1)) 0)
 
 -- A piece has a value for each secret word, and each is one of 0 to 32748.
 abbrev pub ValuesFit : Type 0
