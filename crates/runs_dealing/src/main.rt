@@ -1,5 +1,6 @@
 // Deals P11's deal to every holder, a deal to eight people of whom any five open, and inputs that give each refusal, and prints what comes
 // out, which is compared with `stdout`.
+mod eight;
 mod show;
 
 // Deals one card into the first `room` bytes of what is lent, and prints the answer under its name.
@@ -34,7 +35,7 @@ fn deal(
 }
 
 // The same into the first of 18000 bytes, all of them 9.
-fn case(
+pub fn case(
     name: &[u8],
     people: usize,
     required: &[u16],
@@ -114,7 +115,7 @@ fn lengths() {
     four(b"two words with none, holder", 7, 4, &two, &none, 512);
 }
 
-// Other policies: P3, whose holder 3 has no piece; one piece, which needs no randomness; and policies that planning refuses.
+// Other policies: P3, whose holder 3 has no piece; one piece, which needs no randomness; and two that planning refuses, with all else wrong.
 fn policies() {
     let none = [0u16; 0];
     let first = [1u16];
@@ -166,54 +167,28 @@ fn policies() {
     );
 }
 
-// Randomness for 16 words and 70 pieces.
-fn many() -> [u16; 1104] {
-    let mut words = [0u16; 1104];
-    for i in 0..1104 {
-        words[i] = ((i * 7919 + 13) % 32749) as u16;
-    }
-    words
-}
-
-// The sets of five of eight people.
-fn fives() -> [u16; 56] {
-    let mut sets = [0u16; 56];
-    let mut n: usize = 0;
-    for g in 0..256 {
-        if u32::count_ones(g) == 5 {
-            if n < 56 {
-                sets[n] = g as u16;
-                n += 1;
-            }
-        }
-    }
-    sets
-}
-
-// Any five of eight people, 16 words.
-fn eight(name: &[u8], holder: usize, room: usize) {
+// A policy that planning refuses, with all else right.
+fn bad(name: &[u8], people: usize, required: &[u16], forbidden: &[u16]) {
     let none = [0u16; 0];
-    let sets = fives();
-    let secret = [
-        1u16,
-        2,
-        3,
-        5,
-        8,
-        13,
-        21,
-        34,
-        32748,
-        0,
-        999,
-        1000,
-        12345,
-        32000,
-        31,
-        16384,
-    ];
-    let random = many();
-    case(name, 8, &sets, &none, 32748, holder, &secret, &random, room);
+    let secret = [1u16];
+    case(name, people, required, forbidden, 1, 1, &secret, &none, 512);
+}
+
+// Refusals 1 to 6, as planning gives them.
+fn bad_policies() {
+    let none = [0u16; 0];
+    let first = [1u16];
+    let open = [1u16, 0];
+    let stranger = [1u16, 3, 4];
+    let long = [1u16; 257];
+    bad(b"no people, holder", 0, &first, &none);
+    bad(b"257 required sets, holder", 2, &long, &none);
+    bad(b"257 forbidden sets, holder", 2, &first, &long);
+    bad(b"a stranger, holder", 2, &stranger, &none);
+    bad(b"a forbidden stranger, holder", 2, &first, &stranger);
+    bad(b"no required set, holder", 2, &none, &first);
+    bad(b"an empty required set, holder", 2, &open, &none);
+    bad(b"clash, holder", 2, &first, &first);
 }
 
 // P11's deal to each of its holders.
@@ -285,7 +260,6 @@ fn main() {
     ranges();
     lengths();
     policies();
-    eight(b"any five of eight, holder", 1, 17920);
-    eight(b"any five of eight, holder", 8, 18000);
-    eight(b"any five of eight, 17919 bytes, holder", 8, 17919);
+    bad_policies();
+    eight::cards();
 }

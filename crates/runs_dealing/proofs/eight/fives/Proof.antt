@@ -1,9 +1,9 @@
--- `runs_dealing::fives` is safe and ends.
+-- `runs_dealing::eight::fives` is safe and ends.
 -- Assumes nothing.
 use Prim.Native.Nat.{_-_}
 use borrow.Author.Needs.{needs}
-use Rattle.runs_dealing.proofs.fives.Statement.{statement}
-use Rattle.runs_dealing.proofs.fives.Tie as tie
+use Rattle.runs_dealing.proofs.eight.fives.Statement.{statement}
+use Rattle.runs_dealing.proofs.eight.fives.Tie as tie
 
 abbrev Inv-loop : tie.InvT-loop
 Inv-loop sets₀ n₀ g₀ sets n g = Unit {0}

@@ -1,9 +1,9 @@
--- `runs_dealing::many` is safe and ends.
+-- `runs_dealing::eight::many` is safe and ends.
 -- Assumes nothing.
 use Prim.Native.Nat.{_-_}
 use borrow.Author.Needs.{needs}
-use Rattle.runs_dealing.proofs.many.Statement.{statement}
-use Rattle.runs_dealing.proofs.many.Tie as tie
+use Rattle.runs_dealing.proofs.eight.many.Statement.{statement}
+use Rattle.runs_dealing.proofs.eight.many.Tie as tie
 
 abbrev Inv-loop : tie.InvT-loop
 Inv-loop words₀ i₀ words i = Unit {0}
