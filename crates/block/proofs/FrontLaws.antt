@@ -21,7 +21,7 @@ use Rattle.block.proofs.SumLaws.{check-front}
 use Rattle.block.proofs.OpenLaws.{opening-block, opens-true}
 
 module _ (xs ys : List ℕ) (long : 512 ≤ length xs) where
-  pub word-same : (i : ℕ) → 1 ≤ i → i ≤ 256 → wordAt (xs ++ ys) i ≡ wordAt xs i
+  word-same : (i : ℕ) → 1 ≤ i → i ≤ 256 → wordAt (xs ++ ys) i ≡ wordAt xs i
   word-same i l h = word-front xs ys i l (omega arith)
 
   right-same : (i : ℕ) → 1 ≤ i → i ≤ 255 → rightAt (xs ++ ys) i ≡ rightAt xs i
@@ -42,10 +42,10 @@ module _ (xs ys : List ℕ) (long : 512 ≤ length xs) where
   unfolding firstWrong
   wrong-same = first-same (λ k. not (rightAt (xs ++ ys) k)) (λ k. not (rightAt xs k)) 1 256 (λ k l h. ap not (right-same k l (omega arith)))
 
-  pub lines-front : (a : ℕ) → blockLines (xs ++ ys) a ≡ blockLines xs a
+  lines-front : (a : ℕ) → blockLines (xs ++ ys) a ≡ blockLines xs a
   lines-front a = rw (above-same, check-front xs ys (omega arith), wrong-same, word-same 256 (omega arith) (omega arith))
 
-  pub header-front : headerOf (xs ++ ys) ≡ headerOf xs
+  header-front : headerOf (xs ++ ys) ≡ headerOf xs
   header-front =
       simp (
         word-same 1 (omega arith) (omega arith),
@@ -57,7 +57,7 @@ module _ (xs ys : List ℕ) (long : 512 ≤ length xs) where
         word-same 7 (omega arith) (omega arith),
       )
 
-  pub opening-front : opening (xs ++ ys) ≡ opening xs
+  opening-front : opening (xs ++ ys) ≡ opening xs
   opening-front =
       opening-block (xs ++ ys) (simp length-append (omega arith))
       ∙ ap (λ l. firstFail l (done (headerOf (xs ++ ys)))) (lines-front 1)
@@ -73,7 +73,7 @@ module _ (xs ys : List ℕ) (long : 512 ≤ length xs) where
       rw (word-same 6 (omega arith) (omega arith), drop-append-le 14 xs ys (omega arith)) (take-append-le (2 * widthOf xs) (drop 14 xs) ys n)
   values-by (refused m a b) e = refl
 
-  pub values-front : valueBytes (xs ++ ys) ≡ valueBytes xs
+  values-front : valueBytes (xs ++ ys) ≡ valueBytes xs
   unfolding valueBytes
   values-front =
       ap (λ (o : Outcome (List ℕ)). byOutcome o (take (2 * widthOf (xs ++ ys)) (drop 14 (xs ++ ys))) []) opening-front

@@ -47,7 +47,7 @@ module _ (rows : List (List Bool)) (holder : ℕ) where
   unfolding heldIn
   held-few c = those-few (λ j. not (marked rows j holder)) 1 c
 
-  pub held-more : (c k : ℕ) → c ≤ k → length (heldIn rows holder c) ≤ length (heldIn rows holder k)
+  held-more : (c k : ℕ) → c ≤ k → length (heldIn rows holder c) ≤ length (heldIn rows holder k)
   unfolding heldIn
   held-more c k h = those-more (λ j. not (marked rows j holder)) 1 c k h
 
@@ -166,7 +166,7 @@ pub record Laid (rows : List (List Bool)) (t : Inputs) (old now : List ℕ) (at 
   pub laid : now ≡ over (cardIn rows t c) old
 
 module _ (rows : List (List Bool)) {t : Inputs} (r : Ready t) (old : List ℕ) where
-  pub card-size : (c : ℕ) → length (cardIn rows t c) ≡ 512 * length (heldIn rows (t .holder) c)
+  card-size : (c : ℕ) → length (cardIn rows t c) ≡ 512 * length (heldIn rows (t .holder) c)
   unfolding cardIn
   card-size c = flat-size (blockFor t) (block-size r) (heldIn rows (t .holder) c)
 

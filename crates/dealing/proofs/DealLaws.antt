@@ -103,7 +103,7 @@ module _ (d : Deal) (e : plannedFor d ≡ done (pieceCount d)) where
         card-rows (r .holder-in .0) (omega (arith, r .holder-in .1, r .few)))
         ∙ ap (λ (x : Outcome ℕ). left x (card d holder) out) (s ∙ says (length out))
 
-    pub planned-deal : (o : Outcome ℕ) (out now : List ℕ) → o ≡ inputsSay rows (inputsFor d holder) (length out)
+    planned-deal : (o : Outcome ℕ) (out now : List ℕ) → o ≡ inputsSay rows (inputsFor d holder) (length out)
         → now ≡ left o (cardIn rows (inputsFor d holder) (pieceCount d)) out
         → (o ≡ dealing d holder (length out)) × (now ≡ dealtInto d holder out)
     planned-deal o out now s l = (s ∙ says (length out), l ∙ leaves o out s)

@@ -40,7 +40,7 @@ module _ (pile : List ℕ) (w : ℕ) (words : List ℕ) (e : joining pile 16 ≡
   whole : words ≡ secret pile ++ drop w (replicate 16 0)
   whole = is ∙ result-writes pile (replicate 16 0) w e .1
 
-  pub secret-front : take w words ≡ secret pile
+  secret-front : take w words ≡ secret pile
   secret-front = ap (take w) whole ∙ take-at (secret pile) (drop w (replicate 16 0)) w count
 
   pub secret-fits : w ≤ length words

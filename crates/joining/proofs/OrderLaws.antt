@@ -41,10 +41,10 @@ module _ (pile other : List ℕ) (room w : ℕ) (t : Joins pile room w) (f : Amo
       let x = f .block 1 (le-refl 1, some) in
       deal-same (x .2) ∙ t .sound .one-deal (x .0) 1 (x .1) (le-refl 1, t .some)
 
-  pub same-pieces : pieceCount other ≡ pieceCount pile
+  same-pieces : pieceCount other ≡ pieceCount pile
   same-pieces = ap (λ (l : List ℕ). getD l 2 0) own-deal
 
-  pub same-width : width other ≡ width pile
+  same-width : width other ≡ width pile
   same-width = ap (λ (l : List ℕ). getD l 3 0) own-deal
 
 pub other-joins : (pile other : List ℕ) (room w : ℕ) → Joins pile room w → length other % 512 ≡ 0 → blocks other ≤ 560 → TrueBlocks other

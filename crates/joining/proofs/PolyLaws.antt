@@ -41,7 +41,7 @@ module _ (pile : List ℕ) (room w : ℕ) (t : Joins pile room w) where
   }
 
   -- the first block of piece j
-  pub placed : (j : ℕ) → 1 ≤ j → j ≤ pieceCount pile → In pile (placeOf pile j) × (pieceAt pile (placeOf pile j) ≡ j)
+  placed : (j : ℕ) → 1 ≤ j → j ≤ pieceCount pile → In pile (placeOf pile j) × (pieceAt pile (placeOf pile j) ≡ j)
   placed j l h = place-has pile j (full .place j l h)
 
   -- a block's piece is one of 1 to k

@@ -55,13 +55,13 @@ grow n required (suc d) g room h u =
 
 module _ (n : ℕ) (required : List ℕ) where
   -- ---- the groups of the pieces
-  pub piece-maximal : (j : ℕ) → 1 ≤ j → j ≤ pieceCount n required → (groupOf n required j < 2 ^ n) × (maximal n required (groupOf n required j) ≡ true)
+  piece-maximal : (j : ℕ) → 1 ≤ j → j ≤ pieceCount n required → (groupOf n required j < 2 ^ n) × (maximal n required (groupOf n required j) ≡ true)
   unfolding groupsBy
   piece-maximal j l h =
       let r = in-those (maximal n required) 0 (2 ^ n) (groupOf n required j) (at-in 0 (groups n required) (j - 1) (omega arith)) in
       (omega (arith, r .1), r .2)
 
-  pub maximal-piece : (g : ℕ) → g < 2 ^ n → maximal n required g ≡ true → (j : ℕ) × (1 ≤ j) × (j ≤ pieceCount n required) × (groupOf n required j ≡ g)
+  maximal-piece : (g : ℕ) → g < 2 ^ n → maximal n required g ≡ true → (j : ℕ) × (1 ≤ j) × (j ≤ pieceCount n required) × (groupOf n required j ≡ g)
   unfolding groupsBy
   maximal-piece g h t =
       let r = in-at 0 (groups n required) g (those-in (maximal n required) 0 (2 ^ n) g zero-le (omega arith) t) in
@@ -116,7 +116,7 @@ module _ (n : ℕ) (required : List ℕ) where
   )
 
   -- ---- k is not 0 where no required set is empty
-  pub empty-un : n ≤ 8 → ((s : ℕ) → s ∈ required → s < 2 ^ n) → ((s : ℕ) → s ∈ required → 1 ≤ s) → authorised required 0 ≡ false
+  empty-un : n ≤ 8 → ((s : ℕ) → s ∈ required → s < 2 ^ n) → ((s : ℕ) → s ∈ required → 1 ≤ s) → authorised required 0 ≡ false
   unfolding authorised
   empty-un few known none =
       isn't (λ t.

@@ -59,7 +59,7 @@ module _ (n : ℕ) where
   unfolding planned planLines listLines long firstFail people
   long-forbidden r f h k = simp (le-ltb 256 (length r) h, lt-ltb 256 (length f) k)
 
-  pub first-sets : (r f : List ℕ) → listedPlan n (take 257 r) (take 257 f) ≡ listedPlan n r f
+  first-sets : (r f : List ℕ) → listedPlan n (take 257 r) (take 257 f) ≡ listedPlan n r f
   unfolding listedPlan
   first-sets r f =
       ⊎-elim
