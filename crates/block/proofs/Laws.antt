@@ -1,6 +1,9 @@
 -- This room's laws, proved: each by its name in specs/Laws.antt. Assumes nothing.
+use mathlib.Core.Path.{ap, _∙_, sym}
 use native.Mathlib.Omega.{arith}
+use Rattle.block.specs.Deals.{sameDeal}
 use Rattle.block.specs.Laws as law
+use Rattle.block.proofs.DealLaws as deal
 use Rattle.block.proofs.OpenLaws as «open»
 use Rattle.block.proofs.ValueLaws as value
 use Rattle.block.proofs.BodyLaws as body
@@ -50,3 +53,6 @@ value-words = value.value-words
 
 pub refused-empty : law.RefusedEmpty
 refused-empty = value.refused-empty
+
+pub same-deal-means : law.SameDealMeans
+same-deal-means x y = (deal.same-deal x y, λ e. ap (sameDeal x) (sym e) ∙ deal.deal-same x)

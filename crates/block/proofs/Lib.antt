@@ -1,6 +1,7 @@
 pub mod WordLaws
 pub mod SumLaws
 pub mod PrimeLaws
+pub mod DealLaws
 pub mod LayoutLaws
 pub mod ScanLaws
 pub mod OpenLaws

@@ -2,14 +2,17 @@
 -- Assumes nothing.
 use Prim.Native.Nat.{ℕ, _+_, _-_, _*_, _≤_, _<_}
 use mathlib.Core.Path.{_≡_}
-use mathlib.Core.Logic.{_≢_}
+use mathlib.Core.Bool.{true}
+use mathlib.Core.Logic.{_≢_, _↔_}
 use mathlib.Core.List.{List, [], _++_}
 use lib.ListN.{length, getD, take}
 use Rattle.answer.specs.Outcome.{done, refused}
 use Rattle.answer.specs.Laws.{Passed}
+use Rattle.block.specs.declared.deal.DealWords.{DealWords}
 use Rattle.block.specs.declared.Words.{Words}
 use Rattle.block.specs.declared.Opened.{Opened}
 use Rattle.block.specs.Words.{wordAt, putAt, bytesOf}
+use Rattle.block.specs.Deals.{sameDeal}
 use Rattle.block.specs.Layout.{headerOf, widthOf}
 use Rattle.block.specs.Open.{blockLines, opening, valueBytes, valueStart, wordsOf, opened, TrueBlock}
 use Rattle.block.specs.Written.{blockBytes, Buildable}
@@ -85,3 +88,7 @@ ValueWords = (pile : List ℕ) → TrueBlock pile
 -- "a refused block gives the empty part"
 abbrev pub RefusedEmpty : Type 0
 RefusedEmpty = (pile : List ℕ) (m a b : ℕ) → opening pile ≡ refused m a b → (valueBytes pile ≡ []) × (valueStart pile ≡ 0)
+
+-- The test for one deal holds exactly where all the words that tell deals apart are the same.
+abbrev pub SameDealMeans : Type 0
+SameDealMeans = (x y : DealWords) → (sameDeal x y ≡ true) ↔ (x ≡ y)

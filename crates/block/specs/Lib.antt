@@ -1,4 +1,5 @@
 pub mod Words
+pub mod Deals
 pub mod Layout
 pub mod Open
 pub mod Written

@@ -1,9 +1,13 @@
 // The card block: 512 bytes, read as 256 words of 16 bits, high byte first, numbered from 1.
 // The definitions that the contracts cite are in specs/, in document 01's words and order.
+mod deal;
 mod reading;
 mod writing;
 
 use answer::Refusal;
+pub use deal::DealWords;
+pub use deal::deal_words;
+pub use deal::same_deal;
 pub use reading::check_block;
 pub use reading::open;
 pub use reading::values;

@@ -1,0 +1,31 @@
+-- Two blocks are of one deal exactly where the words that say so are the same. Assumes nothing.
+use mathlib.Core.Path.{_≡_, refl, ap}
+use mathlib.Core.Bool.{true, false, _&&_}
+use Prim.Native.Nat.{ℕ}
+use lib.Dec.{eqb}
+use borrow.Author.Tests.{eqb-true, eq-eqb}
+use Rattle.answer.proofs.Truth.{both, isn't}
+use Rattle.block.specs.declared.deal.DealWords.{DealWords}
+use Rattle.block.specs.Deals.{sameDeal}
+
+pub deal-same : (x : DealWords) → sameDeal x x ≡ true
+unfolding sameDeal
+deal-same x =
+    rw (eq-eqb (x .number) (x .number) refl, eq-eqb (x .people) (x .people) refl, eq-eqb (x .pieces) (x .pieces) refl, eq-eqb (x .width) (x .width) refl)
+
+pub same-deal : (x y : DealWords) → sameDeal x y ≡ true → x ≡ y
+unfolding sameDeal
+same-deal x y e =
+    let d = both (eqb (x .number) (y .number) && eqb (x .people) (y .people) && eqb (x .pieces) (y .pieces)) (eqb (x .width) (y .width)) e in
+    let c = both (eqb (x .number) (y .number) && eqb (x .people) (y .people)) (eqb (x .pieces) (y .pieces)) (d .0) in
+    let b = both (eqb (x .number) (y .number)) (eqb (x .people) (y .people)) (c .0) in
+    λ i.
+    record {
+      number = eqb-true (x .number) (y .number) (b .0) i;
+      people = eqb-true (x .people) (y .people) (b .1) i;
+      pieces = eqb-true (x .pieces) (y .pieces) (c .1) i;
+      width = eqb-true (x .width) (y .width) (d .1) i;
+    }
+
+pub other-deal : (x y : DealWords) → (x ≡ y → ⊥) → sameDeal x y ≡ false
+other-deal x y h = isn't (λ t. h (same-deal x y t))

@@ -1,0 +1,28 @@
+-- `block::deal::deal_words` meets its contract: the words read are those that say which deal. Assumes nothing.
+use borrow.Author.Needs.{needs}
+use Rattle.block.proofs.deal.deal_words.Statement.{statement}
+use Rattle.block.proofs.deal.deal_words.Tie as tie
+
+word-requires : tie.Need-word-requires
+word-requires c κs = search needs
+
+word-requires-2 : tie.Need-word-requires-2
+word-requires-2 c κs = search needs
+
+word-requires-3 : tie.Need-word-requires-3
+word-requires-3 c κs = search needs
+
+word-requires-4 : tie.Need-word-requires-4
+word-requires-4 c κs = search needs
+
+returns : tie.Need-returns
+returns c = λ i.
+    record {
+      number = c .before .before .before .word .ensures i;
+      people = c .before .before .word2 .ensures i;
+      pieces = c .before .word3 .ensures i;
+      width = c .word4 .ensures i;
+    }
+
+pub deal-words-spec : {M : Type 1} → statement M
+deal-words-spec = tie.close (tie.spec word-requires word-requires-2 word-requires-3 word-requires-4 returns)
