@@ -5,7 +5,8 @@ use mathlib.Core.List.{_++_}
 use lib.ListN.{length, drop}
 use Rattle.answer.specs.Checks.{firstFail}
 use Rattle.answer.specs.Places.{firstFrom, firstPlace, those}
-use Rattle.field.specs.Poly.{value, run}
+use Rattle.field.specs.Poly.{value}
+use Rattle.lists.specs.Run.{run}
 use Rattle.field.specs.Joined.{joined, joinedIn, diffs, minus}
 use Rattle.planning.specs.Sets.{member, each, inside, stranger, marks}
 use Rattle.planning.specs.Groups.{some, authorised, tight, maximalBy, groupsBy, holds, held, rowsOf}

@@ -6,7 +6,8 @@ use Prim.Native.Nat.{ℕ, _≤_}
 use lib.ListN.{length, drop, replicate}
 use Rattle.answer.specs.declared.Kind.the-variants.{Clash, Short}
 use Rattle.answer.specs.Outcome.{done, refused, number}
-use Rattle.field.specs.Poly.{piece, run}
+use Rattle.field.specs.Poly.{piece}
+use Rattle.lists.specs.Run.{run}
 use Rattle.field.specs.Joined.{joined}
 use Rattle.planning.specs.Groups.{held}
 use Rattle.planning.specs.Planned.{planned}

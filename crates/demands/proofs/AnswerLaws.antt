@@ -11,7 +11,7 @@ use Rattle.answer.specs.Outcome.{refused}
 use Rattle.answer.proofs.ThoseLaws.{those-in, in-those, at-in, in-at}
 use Rattle.field.specs.Joined.{joined}
 use Rattle.field.proofs.Laws.{round-trip-words}
-use Rattle.field.proofs.RunLaws.{run-is, run-same}
+use Rattle.lists.proofs.RunLaws.{run-is, run-same}
 use Rattle.planning.specs.Groups.{_∈_}
 use Rattle.dealing.specs.Deal.{Deal, pieceCount, held, values}
 use Rattle.dealing.proofs.HeldLaws.{held-in}

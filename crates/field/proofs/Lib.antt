@@ -1,6 +1,5 @@
 pub mod Mod
 pub mod Prime
-pub mod RunLaws
 pub mod Degree
 pub mod Sums
 pub mod Horner

@@ -8,10 +8,11 @@ use native.Mathlib.Nat.{mul-le-mul}
 use native.Mathlib.Numerals.{add-one}
 use lib.ListN.{length, getD, set, drop, replicate, List·getD-append}
 use lib.Seq.{drop-cons, drop-length, set-at, append-snoc}
-use Rattle.field.specs.Poly.{p, Below, run}
+use Rattle.field.specs.Poly.{p, Below}
+use Rattle.lists.specs.Run.{run}
 use Rattle.field.specs.Joined.{joined}
 use Rattle.field.specs.Lagrange.{lagrangeWeight, Weights, weightsOf}
-use Rattle.field.proofs.RunLaws.{run-length, run-at, run-end}
+use Rattle.lists.proofs.RunLaws.{run-length, run-at, run-end}
 use Rattle.field.proofs.Products.{weight-small}
 use Rattle.field.proofs.Curve.{weighed, by-weights}
 

@@ -10,7 +10,7 @@ use Rattle.field.specs.Poly.{p, value, Below, points, Through}
 use Rattle.field.specs.Joined.{joined}
 use Rattle.field.proofs.Mod.{_≈_, small}
 use Rattle.field.proofs.Prime.{cancel}
-use Rattle.field.proofs.RunLaws.{run-is, run-same}
+use Rattle.lists.proofs.RunLaws.{run-is, run-same}
 use Rattle.field.proofs.Degree.{joined-points}
 use Rattle.field.proofs.Sums.{below-rest}
 

@@ -6,7 +6,8 @@ use mathlib.Core.List.{List, _++_}
 use Prim.Native.Nat.{ℕ, zero, suc, _-_, _*_, _%_, _≤_}
 use lib.Dec.{eqb}
 use lib.ListN.{getD, replicate}
-use Rattle.field.specs.Poly.{p, run}
+use Rattle.field.specs.Poly.{p}
+use Rattle.lists.specs.Run.{run}
 use Rattle.field.specs.Joined.{minus}
 use Rattle.field.specs.Inverse.{inverse}
 

@@ -5,7 +5,8 @@ use mathlib.Core.Logic.{_≢_}
 use mathlib.Core.List.{List, _∷_}
 use Prim.Native.Nat.{ℕ, _-_, _*_, _%_, _≤_, _<_}
 use lib.ListN.{length, getD, take, drop, replicate}
-use Rattle.field.specs.Poly.{p, Below, value, piece, run, Through, One}
+use Rattle.field.specs.Poly.{p, Below, value, piece, Through, One}
+use Rattle.lists.specs.Run.{run}
 use Rattle.field.specs.Pieces.{values, Random, Matched, Paired, Gives}
 use Rattle.field.specs.Joined.{joined}
 use Rattle.field.specs.Inverse.{inverse}

@@ -2,8 +2,9 @@
 -- Assumes nothing.
 use mathlib.Core.Path.{_≡_}
 use mathlib.Core.List.{List, [], _∷_}
-use Prim.Native.Nat.{ℕ, zero, suc, _+_, _-_, _*_, _%_, _≤_, _<_}
+use Prim.Native.Nat.{ℕ, _+_, _-_, _*_, _%_, _≤_, _<_}
 use lib.ListN.{length, getD}
+use Rattle.lists.specs.Run.{run}
 
 -- "prime p | 32749"
 abbrev pub p : ℕ
@@ -22,11 +23,6 @@ value (c ∷ cs) x = c + x * value cs x
 -- highest too, may be zero.
 abbrev pub piece : ℕ → List ℕ → ℕ → ℕ
 piece d cs j = value (d ∷ cs) j % p
-
--- f x, f (x + 1), .., n of them
-unfoldable pub run : (ℕ → ℕ) → ℕ → ℕ → List ℕ
-run f x zero = []
-run f x (suc n) = f x ∷ run f (suc x) n
 
 -- the values mod p at x, x + 1, .., n of them, of the polynomial cs
 abbrev pub points : List ℕ → ℕ → ℕ → List ℕ

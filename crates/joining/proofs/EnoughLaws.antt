@@ -16,8 +16,8 @@ use Rattle.answer.specs.Places.{found, those}
 use Rattle.answer.proofs.FirstLaws.{found-some, found-none}
 use Rattle.answer.proofs.ThoseLaws.{those-same, count-hit, count-miss}
 use Rattle.block.specs.Words.{wordAt}
-use Rattle.field.specs.Poly.{run}
-use Rattle.field.proofs.RunLaws.{run-at}
+use Rattle.lists.specs.Run.{run}
+use Rattle.lists.proofs.RunLaws.{run-at}
 use Rattle.joining.specs.Pile.{blocks, restFrom, pieceCount, width, placeOf, present}
 use Rattle.joining.specs.Joined.{enough}
 use Rattle.joining.specs.True.{marked}

@@ -7,7 +7,7 @@ use lib.ListN.{length, drop}
 use Rattle.answer.specs.Lent.{over}
 use Rattle.answer.proofs.LentLaws as lent
 use Rattle.field.specs.Joined.{joined}
-use Rattle.field.proofs.RunLaws.{run-length}
+use Rattle.lists.proofs.RunLaws.{run-length}
 use Rattle.joining.specs.Pile.{width}
 use Rattle.joining.specs.Joined.{joining}
 use Rattle.joining.specs.Secret.{column, secret, joinedInto}

@@ -8,7 +8,7 @@ use native.Mathlib.Omega.{arith}
 use lib.ListN.{length, getD}
 use Rattle.field.specs.Poly.{p, value}
 use Rattle.field.specs.Joined.{joined}
-use Rattle.field.proofs.RunLaws.{run-is, run-length}
+use Rattle.lists.proofs.RunLaws.{run-is, run-length}
 use Rattle.block.specs.Layout.{dealOf}
 use Rattle.joining.specs.Pile.{blocks, restFrom, word, pieceCount, width, pieceAt, valueOf}
 use Rattle.joining.specs.Secret.{column, secret}

@@ -9,7 +9,7 @@ use lib.ListN.{getD}
 use Rattle.field.specs.Poly.{p, value, Through, One}
 use Rattle.field.specs.Joined.{joined}
 use Rattle.field.proofs.Laws.{joined-one}
-use Rattle.field.proofs.RunLaws.{run-at}
+use Rattle.lists.proofs.RunLaws.{run-at}
 use Rattle.block.specs.Words.{wordAt}
 use Rattle.block.specs.Layout.{dealOf}
 use Rattle.joining.specs.Pile.{blocks, restFrom, word, pieceCount, width, pieceAt, placeOf}

@@ -11,8 +11,9 @@ use lib.ListN.{length, getD, set, drop, take, List·getD-eq-default}
 use lib.Seq.{take-at}
 use Rattle.answer.specs.Lent.{over}
 use Rattle.answer.proofs.LentLaws.{over-more}
-use Rattle.field.specs.Poly.{p, run, Below}
-use Rattle.field.proofs.RunLaws.{run-length, run-at, run-end}
+use Rattle.field.specs.Poly.{p, Below}
+use Rattle.lists.specs.Run.{run}
+use Rattle.lists.proofs.RunLaws.{run-length, run-at, run-end}
 use Rattle.joining.specs.Pile.{pieceCount, width, placeOf, valueOf}
 use Rattle.joining.specs.Secret.{column}
 use Rattle.joining.specs.True.{Full}

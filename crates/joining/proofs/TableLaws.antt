@@ -10,8 +10,8 @@ use lib.Seq.{getD-set-same, getD-set-other}
 use borrow.Author.Tests.{eq-eqb, ne-eqb}
 use Rattle.answer.specs.Places.{firstFrom, firstIn}
 use Rattle.joining.specs.Pile.{blocks, pieceAt, hasPiece, placeOf}
-use Rattle.field.specs.Poly.{run}
-use Rattle.field.proofs.RunLaws.{run-length, run-at, run-is}
+use Rattle.lists.specs.Run.{run}
+use Rattle.lists.proofs.RunLaws.{run-length, run-at, run-is}
 use Rattle.answer.proofs.FirstLaws.{miss-end, kept-end, hit-end, below-end}
 
 -- the table with the blocks before block a looked at

@@ -3,7 +3,7 @@ use Prim.Native.Nat.{ℕ}
 use mathlib.Core.List.{List}
 use lib.ListN.{length}
 use Rattle.answer.specs.Lent.{left}
-use Rattle.field.specs.Poly.{run}
+use Rattle.lists.specs.Run.{run}
 use Rattle.field.specs.Joined.{joined}
 use Rattle.joining.specs.Pile.{pieceCount, width, placeOf, valueOf}
 use Rattle.joining.specs.Joined.{joining}

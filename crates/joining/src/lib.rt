@@ -9,7 +9,7 @@ ghost use Rattle.answer.specs.Outcome.{outcome, done};
 ghost use Rattle.answer.specs.Checks.{firstFail};
 ghost use Rattle.answer.specs.Places.{those};
 ghost use Rattle.answer.specs.Lent.{over};
-ghost use Rattle.field.specs.Poly.{run};
+ghost use Rattle.lists.specs.Run.{run};
 ghost use Rattle.field.specs.Joined.{joined};
 ghost use Rattle.field.specs.Lagrange.{weightsOf};
 ghost use Rattle.joining.specs.Pile.{blocks, word, sameDeal, pieceCount, width, placeOf, differIn};

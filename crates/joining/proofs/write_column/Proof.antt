@@ -6,7 +6,7 @@ use mathlib.Core.Path.{_≡_, refl, ap, _∙_}
 use Prim.Native.Nat.{ℕ, _+_, _-_, _≤_}
 use lib.ListN.{length, getD, length-set}
 use Rattle.answer.specs.Lent.{over}
-use Rattle.field.specs.Poly.{run}
+use Rattle.lists.specs.Run.{run}
 use Rattle.joining.specs.Pile.{blocks, pieceCount, placeOf, valueOf}
 use Rattle.joining.specs.Secret.{column}
 use Rattle.joining.proofs.PileLaws.{pieces-in, width-in}

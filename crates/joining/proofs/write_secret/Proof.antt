@@ -6,7 +6,7 @@ use mathlib.Core.Path.{_≡_, refl, ap, _∙_}
 use Prim.Native.Nat.{ℕ, _-_, _≤_}
 use lib.ListN.{length, length-set}
 use Rattle.answer.specs.Lent.{over}
-use Rattle.field.specs.Poly.{run}
+use Rattle.lists.specs.Run.{run}
 use Rattle.field.specs.Joined.{joined}
 use Rattle.field.specs.Lagrange.{weightsOf}
 use Rattle.joining.specs.Pile.{width}

@@ -7,7 +7,7 @@ use native.Mathlib.Nat.{not-suc-le-zero, le-of-suc-le-suc, add-zero, add-suc, su
 use native.Mathlib.Omega.{arith}
 use lib.ListN.{length, getD}
 use lib.Seq.{ext-getD}
-use Rattle.field.specs.Poly.{run}
+use Rattle.lists.specs.Run.{run}
 
 pub run-length : (f : ℕ → ℕ) (x n : ℕ) → length (run f x n) ≡ n
 unfolding run

@@ -1,0 +1,1 @@
+// Lists and places: definitions and laws for all rooms, and no code.
