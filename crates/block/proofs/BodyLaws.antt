@@ -1,17 +1,21 @@
--- The words of a block that is written: which stands where, that none is above 32748, and how many bytes they are.
+-- The words of a block that is written: which stands where, how many bytes they are, and what they can be written from.
 -- Assumes nothing.
 use mathlib.Core.Path.{_≡_, sym, ap, ap₂, _∙_}
 use mathlib.Core.Logic.{_≢_}
 use lib.Arith.{lt-of-le-ne}
 use mathlib.Core.List.{List, [], _∷_, _++_}
-use Prim.Native.Nat.{ℕ, zero, suc, _+_, _-_, _*_, _≤_, _<_, zero-le}
+use Prim.Native.Nat.{ℕ, zero, suc, _+_, _-_, _*_, _≤_, zero-le}
 use native.Mathlib.Omega.{arith}
-use lib.ListN.{length, getD, replicate, length-append, length-replicate, getD-replicate, List·getD-append}
-use lib.Seq.{getD-append-add}
-use Rattle.block.specs.declared.Words.{Words}
+use lib.ListN.{length, getD, length-append}
+use Rattle.lists.proofs.RunLaws.{run-length, run-at}
+use Rattle.block.specs.declared.Label.{Label}
 use Rattle.block.specs.Words.{bytesOf, checkOf}
-use Rattle.block.specs.Written.{body, blockBytes, AllSmall, Buildable}
+use Rattle.block.specs.Layout.{heldAt}
+use Rattle.block.specs.Written.{body, blockBytes, Buildable}
+use Rattle.block.specs.Laws.{Ranges}
 use Rattle.block.proofs.WordLaws.{length-bytes}
+use Rattle.block.proofs.LayoutLaws.{held-rest}
+use Rattle.block.proofs.RangeLaws.{of-ranges}
 
 -- ---- past the arms 1 to 7 of a `match`. (`omega` takes six case splits at most, and each `≢` is one.)
 past : (k i : ℕ) → k ≤ i → i ≢ k → suc k ≤ i
@@ -21,56 +25,37 @@ pub past-seven : (i : ℕ) → 1 ≤ i → i ≢ 1 → i ≢ 2 → i ≢ 3 → i
 past-seven i l n₁ n₂ n₃ n₄ n₅ n₆ n₇ =
     past 7 i (past 6 i (past 5 i (past 4 i (past 3 i (past 2 i (past 1 i l n₁) n₂) n₃) n₄) n₅) n₆) n₇
 
--- ---- words 1 to 255
-module _ (h : Words) (vs : List ℕ) where
-  body-tail : (i : ℕ) → 8 ≤ i → getD (body h vs) (i - 1) 0 ≡ getD (vs ++ replicate (248 - length vs) 0) (i - 8) 0
+-- ---- words 1 to 255, and the block's 512 bytes
+module _ (l : Label) (vs : List ℕ) where
+  pub body-at : (i : ℕ) → 1 ≤ i → i ≤ 255 → getD (body l vs) (i - 1) 0 ≡ heldAt l vs i
   unfolding body
-  body-tail i l = let e : i - 1 ≡ suc (suc (suc (suc (suc (suc (suc (i - 8))))))) = omega arith in rw e
+  body-at i from to = run-at (heldAt l vs) 255 i from to
 
-  pub body-value : (i : ℕ) → 8 ≤ i → i - 8 < length vs → getD (body h vs) (i - 1) 0 ≡ getD vs (i - 8) 0
-  body-value i l m = body-tail i l ∙ List·getD-append vs (replicate (248 - length vs) 0) 0 (i - 8) m
-
-  pub body-zero : (i : ℕ) → 8 ≤ i → i ≤ 255 → length vs ≤ i - 8 → getD (body h vs) (i - 1) 0 ≡ 0
-  body-zero i l m k =
-      let past = i - 8 - length vs in
-      let e : i - 8 ≡ length vs + past = omega arith in
-      body-tail i l
-      ∙ rw e (getD-append-add vs (replicate (248 - length vs) 0) past 0 ∙ getD-replicate (248 - length vs) past 0 0 (omega arith))
-
-  pub length-body : length vs ≤ 248 → length (body h vs) ≡ 255
+  pub length-body : length (body l vs) ≡ 255
   unfolding body
-  length-body l =
-      let z : List ℕ = replicate (248 - length vs) 0 in
-      let e : length (vs ++ z) ≡ length vs + length z = length-append vs z in
-      let r : length z ≡ 248 - length vs = length-replicate (248 - length vs) 0 in
-      omega arith
+  length-body = run-length (heldAt l vs) 1 255
 
--- ---- none of them is above 32748
-small-zeros : (n i : ℕ) → getD (replicate n 0) i 0 ≤ 32748
-small-zeros zero i = zero-le
-small-zeros (suc n) zero = zero-le
-small-zeros (suc n) (suc i) = small-zeros n i
+  pub length-block : length (blockBytes l vs) ≡ 512
+  unfolding blockBytes
+  length-block =
+      let b : List ℕ = bytesOf (body l vs) in
+      length-append b (bytesOf (checkOf b ∷ []))
+      ∙ ap₂ _+_ (length-bytes (body l vs) ∙ ap (λ (n : ℕ). 2 * n) length-body) (length-bytes (checkOf b ∷ []))
 
-small-padded : (vs : List ℕ) (n i : ℕ) → AllSmall vs → getD (vs ++ replicate n 0) i 0 ≤ 32748
-small-padded [] n i a = small-zeros n i
-small-padded (v ∷ vs) n zero a = a .small zero
-small-padded (v ∷ vs) n (suc i) a = small-padded vs n i (record { small = λ m. a .small (suc m) })
+-- ---- a label in its ranges and values of at most 32748 can be written
+module _ (l : Label) (vs : List ℕ) (y : Ranges l) (number : l .deal .number ≤ 32748) (values : (i : ℕ) → getD vs i 0 ≤ 32748) where
+  held-small : (i : ℕ) → 1 ≤ i → heldAt l vs i ≤ 32748
+  unfolding heldAt
+  held-small zero u = absurd (omega arith)
+  held-small (suc zero) u = omega arith
+  held-small (suc (suc zero)) u = number
+  held-small (suc (suc (suc zero))) u = omega (arith, y .holder .1)
+  held-small (suc (suc (suc (suc zero)))) u = omega (arith, y .people .1)
+  held-small (suc (suc (suc (suc (suc zero))))) u = omega (arith, y .pieces .1)
+  held-small (suc (suc (suc (suc (suc (suc zero)))))) u = omega (arith, y .width .1)
+  held-small (suc (suc (suc (suc (suc (suc (suc zero))))))) u = omega (arith, y .piece .1, y .pieces .1)
+  held-small (suc (suc (suc (suc (suc (suc (suc (suc i)))))))) u =
+      rw (held-rest l vs (suc (suc (suc (suc (suc (suc (suc (suc i)))))))) (omega arith)) (values (suc (suc (suc (suc (suc (suc (suc (suc i))))))) - 8))
 
-pub body-small : (h : Words) (vs : List ℕ) → Buildable h vs → (i : ℕ) → getD (body h vs) i 0 ≤ 32748
-unfolding body
-body-small h vs ok zero = omega arith
-body-small h vs ok (suc zero) = omega arith
-body-small h vs ok (suc (suc zero)) = omega arith
-body-small h vs ok (suc (suc (suc zero))) = omega arith
-body-small h vs ok (suc (suc (suc (suc zero)))) = omega arith
-body-small h vs ok (suc (suc (suc (suc (suc zero))))) = omega arith
-body-small h vs ok (suc (suc (suc (suc (suc (suc zero)))))) = omega arith
-body-small h vs ok (suc (suc (suc (suc (suc (suc (suc i))))))) = small-padded vs (248 - length vs) i (ok .values-in)
-
--- ---- a block is 512 bytes
-pub length-block : (h : Words) (vs : List ℕ) → length vs ≤ 248 → length (blockBytes h vs) ≡ 512
-unfolding blockBytes
-length-block h vs l =
-    let b : List ℕ = bytesOf (body h vs) in
-    length-append b (bytesOf (checkOf b ∷ []))
-    ∙ ap₂ _+_ (length-bytes (body h vs) ∙ ap (λ (n : ℕ). 2 * n) (length-body h vs l)) (length-bytes (checkOf b ∷ []))
+  pub builds : l .deal .width ≡ length vs → Buildable l vs
+  builds e = record { ranged = of-ranges l y; counted = e; small = λ i from to. held-small i from }

@@ -1,9 +1,10 @@
 -- This room's laws, proved: each by its name in specs/Laws.antt. Assumes nothing.
 use mathlib.Core.Path.{ap, _∙_, sym}
-use native.Mathlib.Omega.{arith}
 use Rattle.block.specs.Deals.{sameDeal}
 use Rattle.block.specs.Laws as law
 use Rattle.block.proofs.DealLaws as deal
+use Rattle.block.proofs.RangeLaws as range
+use Rattle.block.proofs.OnlyLaws as only
 use Rattle.block.proofs.OpenLaws as «open»
 use Rattle.block.proofs.ValueLaws as value
 use Rattle.block.proofs.BodyLaws as body
@@ -12,14 +13,23 @@ use Rattle.block.proofs.DamageLaws as damage
 use Rattle.block.proofs.FrontLaws as front
 use Rattle.block.proofs.OneLaws as one
 
+pub ranges-mean : law.RangesMean
+ranges-mean l = (range.ranges-of l, range.of-ranges l)
+
 pub block-length : law.BlockLength
-block-length h vs ok = body.length-block h vs (omega (arith, ok .width-in))
+block-length l vs ok = body.length-block l vs
 
 pub opens-written : law.OpensWritten
 opens-written = written.opens-written
 
 pub written-words : law.WrittenWords
 written-words = written.written-words
+
+pub true-written : law.TrueWritten
+true-written = written.true-written
+
+pub only-words : law.OnlyWords
+only-words b c same = (only.only-lines b c same, only.only-header b c same, only.only-true b c same)
 
 pub true-means : law.TrueMeans
 true-means b a = («open».true-passes b a, «open».passes-true b a)

@@ -1,31 +1,26 @@
--- The layout: the words past the header, and that no word is wrong exactly where the layout is kept.
--- Assumes nothing.
-use mathlib.Core.Path.{_≡_, refl, sym, ap, _∙_}
-use mathlib.Core.Bool.{Bool, true, false, not, _||_}
+-- The table of the layout, word by word: what stands past word 7, what a block's own words say of it, and that no word is wrong exactly
+-- where the layout is kept. Assumes nothing.
+use mathlib.Core.Path.{_≡_, refl, sym, ap, ap₂, _∙_}
+use mathlib.Core.Bool.{Bool, true, false, not, _&&_}
 use mathlib.Core.List.{List}
-use Prim.Native.Nat.{ℕ, zero, suc, _+_, _≤_}
-use native.Mathlib.Nat.{not-suc-le-zero, pos-of-ne-zero}
+use Prim.Native.Nat.{ℕ, zero, suc, _+_, _-_, _≤_, _<_}
 use native.Mathlib.Decide.{decLe}
 use native.Mathlib.Omega.{arith}
-use lib.Dec.{leb, eqb}
-use borrow.Author.Tests.{leb-true, leb-false, le-leb, lt-leb, eqb-true, eqb-false, eq-eqb, ne-eqb, not-false}
+use lib.Dec.{eqb}
+use lib.ListN.{getD, length, List·getD-eq-default}
+use borrow.Author.Tests.{eqb-true, eq-eqb, ne-eqb, not-false}
+use Rattle.lists.proofs.RunLaws.{run-length, run-at}
 use Rattle.answer.specs.Places.{firstIn}
-use Rattle.answer.proofs.Truth.{both, not-so}
+use Rattle.answer.proofs.Truth.{both, and-all}
 use Rattle.answer.proofs.FirstLaws.{first-none, first-all, none-in, skip, first-same}
+use Rattle.block.specs.declared.Label.{Label}
 use Rattle.block.specs.Words.{wordAt}
-use Rattle.block.specs.Layout.{widthOf, within, rightAt, filled, firstWrong, Layout}
+use Rattle.block.specs.Layout.{widthOf, heldAt, rangeAt, Ranged, labelOf, valuesOf, rightAt, filled, firstWrong, Layout}
 
--- ---- a word in its range
-in-range : (low v high : ℕ) → within low v high ≡ true → (low ≤ v) × (v ≤ high)
-in-range low v high e = let r = both (leb low v) (leb v high) e in (leb-true low v (r .0), leb-true v high (r .1))
-
-range-in : (low v high : ℕ) → low ≤ v → v ≤ high → within low v high ≡ true
-range-in low v high l h = simp (le-leb low v l, le-leb v high h)
-
--- ---- a word past the header
-right-rest : (b : List ℕ) (i : ℕ) → 8 ≤ i → rightAt b i ≡ (leb i (7 + widthOf b) || eqb (wordAt b i) 0)
-unfolding rightAt
-right-rest b i l =
+-- ---- past word 7 the table has the values, and no range
+pub held-rest : (l : Label) (vs : List ℕ) (i : ℕ) → 8 ≤ i → heldAt l vs i ≡ getD vs (i - 8) 0
+unfolding heldAt
+held-rest l vs i h =
     simp (
       ne-eqb i 1 (λ e. omega arith),
       ne-eqb i 2 (λ e. omega arith),
@@ -36,14 +31,83 @@ right-rest b i l =
       ne-eqb i 7 (λ e. omega arith),
     )
 
+range-rest : (l : Label) (i : ℕ) → 8 ≤ i → rangeAt l i ≡ true
+unfolding rangeAt
+range-rest l i h =
+    simp (
+      ne-eqb i 2 (λ e. omega arith),
+      ne-eqb i 3 (λ e. omega arith),
+      ne-eqb i 4 (λ e. omega arith),
+      ne-eqb i 5 (λ e. omega arith),
+      ne-eqb i 6 (λ e. omega arith),
+      ne-eqb i 7 (λ e. omega arith),
+    )
+
+-- a label is in its ranges where its words 2 to 7 are
+pub ranged : (l : Label) → ((i : ℕ) → 2 ≤ i → i ≤ 7 → rangeAt l i ≡ true) → Ranged l
+unfolding rangeAt
+ranged l h = record { range = go }
+  where
+    go : (i : ℕ) → rangeAt l i ≡ true
+    go zero = refl
+    go (suc zero) = refl
+    go (suc (suc i)) = far (decLe (suc (suc i)) 7)
+      where
+        far : Dec (suc (suc i) ≤ 7) → rangeAt l (suc (suc i)) ≡ true
+        far (yes m) = h (suc (suc i)) (omega arith) m
+        far (no m) = range-rest l (suc (suc i)) (omega arith)
+
+-- the values that a block has, and 0 past them
+pub values-at : (b : List ℕ) (i : ℕ) → 1 ≤ i → i ≤ widthOf b → getD (valuesOf b) (i - 1) 0 ≡ wordAt b (7 + i)
+unfolding valuesOf
+values-at b i l h = run-at (λ j. wordAt b (7 + j)) (widthOf b) i l h
+
+pub values-count : (b : List ℕ) → length (valuesOf b) ≡ widthOf b
+unfolding valuesOf
+values-count b = run-length (λ j. wordAt b (7 + j)) 1 (widthOf b)
+
+-- ---- a block's words against the table
+-- words 2 to 7 are what the table has there, whatever they are: their range alone counts
+own-word : (b vs : List ℕ) (i : ℕ) → 2 ≤ i → i ≤ 7 → heldAt (labelOf b) vs i ≡ wordAt b i
+unfolding heldAt
+own-word b vs zero l h = absurd (omega arith)
+own-word b vs (suc zero) l h = absurd (omega arith)
+own-word b vs (suc (suc zero)) l h = refl
+own-word b vs (suc (suc (suc zero))) l h = refl
+own-word b vs (suc (suc (suc (suc zero)))) l h = refl
+own-word b vs (suc (suc (suc (suc (suc zero))))) l h = refl
+own-word b vs (suc (suc (suc (suc (suc (suc zero)))))) l h = refl
+own-word b vs (suc (suc (suc (suc (suc (suc (suc zero))))))) l h = refl
+own-word b vs (suc (suc (suc (suc (suc (suc (suc (suc i)))))))) l h = absurd (omega arith)
+
+pub right-own : (b : List ℕ) (i : ℕ) → 2 ≤ i → i ≤ 7 → rightAt b i ≡ rangeAt (labelOf b) i
+unfolding rightAt
+right-own b i l h = rw (eq-eqb (wordAt b i) (heldAt (labelOf b) (valuesOf b) i) (sym (own-word b (valuesOf b) i l h)))
+
+pub right-mark : (b : List ℕ) → rightAt b 1 ≡ eqb (wordAt b 1) 1987
+unfolding rightAt heldAt rangeAt
+right-mark b = and-all (eqb (wordAt b 1) 1987)
+
+right-rest : (b : List ℕ) (i : ℕ) → 8 ≤ i → rightAt b i ≡ eqb (wordAt b i) (getD (valuesOf b) (i - 8) 0)
+unfolding rightAt
+right-rest b i l =
+    ap₂ (λ (x : ℕ) (y : Bool). eqb (wordAt b i) x && y) (held-rest (labelOf b) (valuesOf b) i l) (range-rest (labelOf b) i l)
+    ∙ and-all (eqb (wordAt b i) (getD (valuesOf b) (i - 8) 0))
+
 -- the words of the values are right, and those past them where they are 0
 right-value : (b : List ℕ) (i : ℕ) → 8 ≤ i → i ≤ 7 + widthOf b → not (rightAt b i) ≡ false
-right-value b i l h = rw (right-rest b i l, le-leb i (7 + widthOf b) h)
+right-value b i l h =
+    let e : i - 7 - 1 ≡ i - 8 = omega arith in
+    let f : 7 + (i - 7) ≡ i = omega arith in
+    let v : getD (valuesOf b) (i - 8) 0 ≡ wordAt b i = rw (e, f) at (values-at b (i - 7) (omega arith) (omega arith)) in
+    ap not (right-rest b i l ∙ eq-eqb (wordAt b i) (getD (valuesOf b) (i - 8) 0) (sym v))
 
 right-zero : (b : List ℕ) (i : ℕ) → 8 + widthOf b ≤ i → not (rightAt b i) ≡ filled b i
-right-zero b i h = rw (right-rest b i (omega arith), lt-leb i (7 + widthOf b) (omega arith))
+right-zero b i h =
+    let z : getD (valuesOf b) (i - 8) 0 ≡ 0 = List·getD-eq-default (valuesOf b) 0 (omega (arith, values-count b)) in
+    ap not (right-rest b i (omega arith) ∙ ap (eqb (wordAt b i)) z)
 
--- so past the header the first wrong word is the first past the values that is not 0
+-- so past word 7 the first wrong word is the first past the values that is not 0
 pub wrong-rest : (b : List ℕ) → firstIn (λ k. not (rightAt b k)) 8 256 ≡ firstIn (filled b) (8 + widthOf b) 256
 wrong-rest b = go (decLe (8 + widthOf b) 256)
   where
@@ -55,47 +119,21 @@ wrong-rest b = go (decLe (8 + widthOf b) 256)
         first-all (λ k. not (rightAt b k)) 8 256 (λ k l m. right-value b k l (omega arith))
         ∙ sym (first-none (filled b) (8 + widthOf b) 256 (omega arith))
 
--- ---- no word is wrong, so the layout is kept
+-- ---- no word is wrong exactly where the layout is kept
 pub layout-of : (b : List ℕ) → firstWrong b ≡ 0 → Layout b
-unfolding rightAt firstWrong
+unfolding firstWrong rightAt
 layout-of b z =
-    let r : (i : ℕ) → 1 ≤ i → i ≤ 255 → rightAt b i ≡ true = λ i l h.
-    not-false (rightAt b i) (none-in (λ k. not (rightAt b k)) 1 256 (omega arith) z i l (omega arith)) in
-    let r₄ = both (within 1 (wordAt b 4) 8) (leb (wordAt b 3) (wordAt b 4)) (r 4 (omega arith) (omega arith)) in
-    let n₄ = in-range 1 (wordAt b 4) 8 (r₄ .0) in
+    let r : (i : ℕ) → 1 ≤ i → i ≤ 255 → (eqb (wordAt b i) (heldAt (labelOf b) (valuesOf b) i) ≡ true) × (rangeAt (labelOf b) i ≡ true) = λ i l h.
+    both _ _ (not-false (rightAt b i) (none-in (λ k. not (rightAt b k)) 1 256 (omega arith) z i l (omega arith))) in
     record {
-      mark = eqb-true (wordAt b 1) 1987 (r 1 (omega arith) (omega arith));
-      deal = pos-of-ne-zero (eqb-false (wordAt b 2) 0 (not-so (eqb (wordAt b 2) 0) (r 2 (omega arith) (omega arith))));
-      holder = in-range 1 (wordAt b 3) 8 (r 3 (omega arith) (omega arith));
-      people = (n₄ .0, n₄ .1, leb-true (wordAt b 3) (wordAt b 4) (r₄ .1));
-      pieces = in-range 1 (wordAt b 5) 70 (r 5 (omega arith) (omega arith));
-      width = in-range 1 (widthOf b) 16 (r 6 (omega arith) (omega arith));
-      piece = in-range 1 (wordAt b 7) (wordAt b 5) (r 7 (omega arith) (omega arith));
-      zeros = λ i l h.
-          eqb-true (wordAt b i) 0 (simp (lt-leb i (7 + widthOf b) (omega arith)) at (sym (right-rest b i (omega arith)) ∙ r i (omega arith) h));
+      word = λ i l h. eqb-true (wordAt b i) (heldAt (labelOf b) (valuesOf b) i) (r i l h .0);
+      ranged = ranged (labelOf b) (λ i l h. r i (omega arith) (omega arith) .1);
     }
 
--- and the other way, word by word
-layout-right : (b : List ℕ) → Layout b → (i : ℕ) → 1 ≤ i → i ≤ 255 → rightAt b i ≡ true
-unfolding rightAt
-layout-right b y zero l h = absurd (not-suc-le-zero l)
-layout-right b y (suc zero) l h = eq-eqb (wordAt b 1) 1987 (y .mark)
-layout-right b y (suc (suc zero)) l h = rw (ne-eqb (wordAt b 2) 0 (λ e. omega (arith, y .deal)))
-layout-right b y (suc (suc (suc zero))) l h = range-in 1 (wordAt b 3) 8 (y .holder .0) (y .holder .1)
-layout-right b y (suc (suc (suc (suc zero)))) l h =
-    simp (range-in 1 (wordAt b 4) 8 (y .people .0) (y .people .1), le-leb (wordAt b 3) (wordAt b 4) (y .people .2))
-layout-right b y (suc (suc (suc (suc (suc zero))))) l h = range-in 1 (wordAt b 5) 70 (y .pieces .0) (y .pieces .1)
-layout-right b y (suc (suc (suc (suc (suc (suc zero)))))) l h = range-in 1 (wordAt b 6) 16 (y .width .0) (y .width .1)
-layout-right b y (suc (suc (suc (suc (suc (suc (suc zero))))))) l h = range-in 1 (wordAt b 7) (wordAt b 5) (y .piece .0) (y .piece .1)
-layout-right b y (suc (suc (suc (suc (suc (suc (suc (suc m)))))))) l h = right-rest b i (omega arith) ∙ rest (leb i (7 + widthOf b)) refl
-  where
-    i : ℕ
-    i = suc (suc (suc (suc (suc (suc (suc (suc m)))))))
-
-    rest : (x : Bool) → leb i (7 + widthOf b) ≡ x → x || eqb (wordAt b i) 0 ≡ true
-    rest true e = refl
-    rest false e = eq-eqb (wordAt b i) 0 (y .zeros i (omega (arith, leb-false i (7 + widthOf b) e)) h)
-
 pub of-layout : (b : List ℕ) → Layout b → firstWrong b ≡ 0
-unfolding firstWrong
-of-layout b y = first-all (λ k. not (rightAt b k)) 1 256 (λ k l h. ap not (layout-right b y k l (omega arith)))
+unfolding firstWrong rightAt
+of-layout b y =
+    first-all (λ k. not (rightAt b k)) 1 256
+    (λ k l h.
+    let kept : rightAt b k ≡ true = rw (eq-eqb (wordAt b k) (heldAt (labelOf b) (valuesOf b) k) (y .word k l (omega arith)), y .ranged .range k) in
+    ap not kept)

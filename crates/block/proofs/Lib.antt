@@ -3,14 +3,16 @@ pub mod SumLaws
 pub mod PrimeLaws
 pub mod DealLaws
 pub mod LayoutLaws
+pub mod RangeLaws
 pub mod ScanLaws
 pub mod OpenLaws
+pub mod OnlyLaws
 pub mod ValueLaws
+pub mod FrontLaws
 pub mod BodyLaws
 pub mod WritingLaws
 pub mod WrittenLaws
 pub mod DamageLaws
-pub mod FrontLaws
 pub mod OneLaws
 pub mod Cases
 pub mod Laws

@@ -22,7 +22,7 @@ use Rattle.block.specs.declared.Words.{Words}
 use Rattle.block.specs.declared.Opened.the-variants.{Head, Refused}
 use Rattle.block.specs.Words.{wordAt, checkOf, Small}
 use Rattle.block.specs.Layout.{headerOf, rightAt, firstWrong}
-use Rattle.block.specs.Open.{above, firstAbove, torn, unread, check, header, blockLines, opening, wordsOf, opened, TrueBlock}
+use Rattle.block.specs.Open.{above, firstAbove, torn, unread, check, header, slotLines, blockLines, opening, wordsOf, opened, TrueBlock}
 use Rattle.block.specs.Laws.{Refusable, by-torn, by-unread, by-check, by-header}
 use Rattle.block.proofs.LayoutLaws.{layout-of, of-layout}
 
@@ -37,24 +37,18 @@ of-small b s = first-all (above b) 1 257 (λ k l h. le-ltb 32748 (wordAt b k) (s
 
 -- ---- the lines of a block: which of them speaks
 module _ {A : Type 0} (b : List ℕ) (a : ℕ) (end : Outcome A) where
-  pub says-unread : firstAbove b ≢ 0 → firstFail (blockLines b a) end ≡ refused 15 a 0
-  says-unread h = given (unread b a) (check b a ∷ header b a ∷ []) end (found-some h)
+  pub slots-unread : firstAbove b ≢ 0 → firstFail (slotLines b a) end ≡ refused 15 a 0
+  slots-unread h = given (unread b a) (check b a ∷ []) end (found-some h)
 
-  past-unread : firstAbove b ≡ 0 → firstFail (blockLines b a) end ≡ firstFail (check b a ∷ header b a ∷ []) end
-  past-unread h = not-given (unread b a) (check b a ∷ header b a ∷ []) end (found-none h)
+  past-unread : firstAbove b ≡ 0 → firstFail (slotLines b a) end ≡ firstFail (check b a ∷ []) end
+  past-unread h = not-given (unread b a) (check b a ∷ []) end (found-none h)
 
-  pub says-check : firstAbove b ≡ 0 → checkOf b ≢ wordAt b 256 → firstFail (blockLines b a) end ≡ refused 16 a 0
-  says-check z h = past-unread z ∙ given (check b a) (header b a ∷ []) end (ap not (ne-eqb (checkOf b) (wordAt b 256) h))
+  pub slots-check : firstAbove b ≡ 0 → checkOf b ≢ wordAt b 256 → firstFail (slotLines b a) end ≡ refused 16 a 0
+  slots-check z h = past-unread z ∙ given (check b a) [] end (ap not (ne-eqb (checkOf b) (wordAt b 256) h))
 
-  past-check : firstAbove b ≡ 0 → checkOf b ≡ wordAt b 256 → firstFail (blockLines b a) end ≡ firstFail (header b a ∷ []) end
-  past-check z s = past-unread z ∙ not-given (check b a) (header b a ∷ []) end (ap not (eq-eqb (checkOf b) (wordAt b 256) s))
-
-  pub says-header : firstAbove b ≡ 0 → checkOf b ≡ wordAt b 256 → firstWrong b ≢ 0 → firstFail (blockLines b a) end ≡ refused 17 a (firstWrong b)
-  says-header z s h = past-check z s ∙ given (header b a) [] end (found-some h)
-
-  pub says-end : firstAbove b ≡ 0 → checkOf b ≡ wordAt b 256 → firstWrong b ≡ 0 → firstFail (blockLines b a) end ≡ end
+  pub slots-end : firstAbove b ≡ 0 → checkOf b ≡ wordAt b 256 → firstFail (slotLines b a) end ≡ end
   unfolding firstFail
-  says-end z s h = past-check z s ∙ not-given (header b a) [] end (found-none h)
+  slots-end z s = past-unread z ∙ not-given (check b a) [] end (ap not (eq-eqb (checkOf b) (wordAt b 256) s))
 
 -- ---- a true block passes them, and what passes them is a true block
 pub true-passes : (b : List ℕ) (a : ℕ) → TrueBlock b → Passed (blockLines b a)

@@ -1,13 +1,15 @@
 -- Words and bytes: which word stands where in a list of words as bytes, in the front of a list, and after a store.
 -- Assumes nothing.
-use mathlib.Core.Path.{_≡_, refl, sym, ap, _∙_}
+use mathlib.Core.Path.{_≡_, refl, sym, ap, ap₂, _∙_}
 use mathlib.Core.Logic.{_≢_}
 use mathlib.Core.List.{List, [], _∷_, _++_, append-assoc, append-nil}
-use Prim.Native.Nat.{ℕ, zero, suc, _+_, _-_, _*_, _/_, _%_, _≤_}
+use Prim.Native.Nat.{ℕ, zero, suc, _+_, _-_, _*_, _/_, _%_, _≤_, _<_}
 use native.Mathlib.Nat.{not-suc-le-zero, div-add-mod'}
 use native.Mathlib.Omega.{arith}
-use lib.ListN.{length, getD, drop, set, length-append, length-set, List·getD-append}
-use lib.Seq.{drop-cons, set-at, getD-set-same, getD-set-other}
+use lib.ListN.{length, getD, take, drop, set, length-append, length-set, List·getD-append}
+use lib.Seq.{take-suc, drop-cons, set-at, getD-set-same, getD-set-other}
+use Rattle.lists.specs.Run.{run}
+use Rattle.lists.proofs.RunLaws.{run-end}
 use Rattle.block.specs.Words.{wordAt, putAt, bytesOf}
 
 -- ---- a list of words as bytes
@@ -35,6 +37,35 @@ bytes-word (v ∷ vs) rest (suc (suc i)) l h =
 
 pub bytes-word-alone : (ws : List ℕ) (i : ℕ) → 1 ≤ i → i ≤ length ws → wordAt (bytesOf ws) i ≡ getD ws (i - 1) 0
 bytes-word-alone ws i l h = rw (append-nil (bytesOf ws)) at (bytes-word ws [] i l h)
+
+-- ---- bytes below 256 are the bytes of their words
+pub bytes-low : (ws : List ℕ) → ((i : ℕ) → getD ws i 0 ≤ 65535) → (i : ℕ) → getD (bytesOf ws) i 0 < 256
+unfolding bytesOf
+bytes-low [] h i = omega arith
+bytes-low (v ∷ vs) h zero = let l = h 0 in omega arith
+bytes-low (v ∷ vs) h (suc zero) = omega arith
+bytes-low (v ∷ vs) h (suc (suc i)) = bytes-low vs (λ k. h (suc k)) i
+
+pub bytes-of-words : (b : List ℕ) → ((i : ℕ) → getD b i 0 < 256) → (n : ℕ) → 2 * n ≤ length b → take (2 * n) b ≡ bytesOf (run (wordAt b) 1 n)
+unfolding bytesOf run wordAt
+bytes-of-words b low zero h = refl
+bytes-of-words b low (suc n) h =
+    let two : 2 * suc n ≡ suc (suc (2 * n)) = omega arith in
+    let at : 2 * (1 + n - 1) ≡ 2 * n = omega arith in
+    let at′ : 2 * (1 + n - 1) + 1 ≡ suc (2 * n) = omega arith in
+    let hi = getD b (2 * n) 0 in
+    let lo = getD b (suc (2 * n)) 0 in
+    let u : lo < 256 = low (suc (2 * n)) in
+    let word : wordAt b (1 + n) ≡ hi * 256 + lo = rw (at′, at) in
+    let top : wordAt b (1 + n) / 256 ≡ hi = omega arith in
+    let end : wordAt b (1 + n) % 256 ≡ lo = omega arith in
+    rw two
+    (take-suc b (suc (2 * n)) 0 (omega arith)
+    ∙ ap (λ (l : List ℕ). l ++ lo ∷ []) (take-suc b (2 * n) 0 (omega arith))
+    ∙ append-assoc (take (2 * n) b) (hi ∷ []) (lo ∷ [])
+    ∙ ap₂ (λ (x y : List ℕ). x ++ y) (bytes-of-words b low n (omega arith)) (λ i. sym top i ∷ sym end i ∷ [])
+    ∙ sym (bytes-append (run (wordAt b) 1 n) (wordAt b (1 + n) ∷ []))
+    ∙ ap bytesOf (sym (run-end (wordAt b) 1 n)))
 
 -- ---- what follows does not change a word
 pub word-front : (xs ys : List ℕ) (i : ℕ) → 1 ≤ i → 2 * i ≤ length xs → wordAt (xs ++ ys) i ≡ wordAt xs i

@@ -6,33 +6,59 @@ use mathlib.Core.Bool.{true}
 use mathlib.Core.Logic.{_≢_, _↔_}
 use mathlib.Core.List.{List, [], _++_}
 use lib.ListN.{length, getD, take}
+use Rattle.lists.specs.Run.{run}
 use Rattle.answer.specs.Outcome.{done, refused}
 use Rattle.answer.specs.Laws.{Passed}
 use Rattle.block.specs.declared.deal.DealWords.{DealWords}
-use Rattle.block.specs.declared.Words.{Words}
+use Rattle.block.specs.declared.Label.{Label}
 use Rattle.block.specs.declared.Opened.{Opened}
 use Rattle.block.specs.Words.{wordAt, putAt, bytesOf}
 use Rattle.block.specs.Deals.{sameDeal}
-use Rattle.block.specs.Layout.{headerOf, widthOf}
+use Rattle.block.specs.Layout.{headerOf, widthOf, heldAt, Ranged, labelOf, valuesOf}
 use Rattle.block.specs.Open.{blockLines, opening, valueBytes, valueStart, wordsOf, opened, TrueBlock}
 use Rattle.block.specs.Written.{blockBytes, Buildable}
 
+-- The ranges of a label, as inequalities.
+pub record Ranges (l : Label) : Type 0 where
+  pub number : 1 ≤ l .deal .number
+  pub holder : (1 ≤ l .holder) × (l .holder ≤ 8)
+  pub people : (1 ≤ l .deal .people) × (l .deal .people ≤ 8) × (l .holder ≤ l .deal .people)
+  pub pieces : (1 ≤ l .deal .pieces) × (l .deal .pieces ≤ 70)
+  pub width : (1 ≤ l .deal .width) × (l .deal .width ≤ 16)
+  pub piece : (1 ≤ l .piece) × (l .piece ≤ l .deal .pieces)
+
+abbrev pub RangesMean : Type 0
+RangesMean = (l : Label) → Ranged l ↔ Ranges l
+
 -- "one block of 512 bytes"
 abbrev pub BlockLength : Type 0
-BlockLength = (h : Words) (vs : List ℕ) → Buildable h vs → length (blockBytes h vs) ≡ 512
+BlockLength = (l : Label) (vs : List ℕ) → Buildable l vs → length (blockBytes l vs) ≡ 512
 
 -- A block that was written is a true block, followed by any bytes; it opens to its words, and its value bytes are its values as bytes.
 abbrev pub OpensWritten : Type 0
-OpensWritten = (h : Words) (vs rest : List ℕ) → Buildable h vs
-    → TrueBlock (blockBytes h vs ++ rest)
-    × (opening (blockBytes h vs ++ rest) ≡ done (wordsOf h))
-    × (valueBytes (blockBytes h vs ++ rest) ≡ bytesOf vs)
+OpensWritten = (l : Label) (vs rest : List ℕ) → Buildable l vs
+    → TrueBlock (blockBytes l vs ++ rest)
+    × (opening (blockBytes l vs ++ rest) ≡ done (run (heldAt l vs) 1 7))
+    × (valueBytes (blockBytes l vs ++ rest) ≡ bytesOf vs)
 
--- Its words 1 to 7 are those it was written from, and words "8 to 7+w" its values.
+-- Its words are those of the table, and the label and the values that it has are those that it was written from.
 abbrev pub WrittenWords : Type 0
-WrittenWords = (h : Words) (vs rest : List ℕ) → Buildable h vs
-    → (headerOf (blockBytes h vs ++ rest) ≡ wordsOf h)
-    × ((i : ℕ) → 1 ≤ i → i ≤ length vs → wordAt (blockBytes h vs ++ rest) (7 + i) ≡ getD vs (i - 1) 0)
+WrittenWords = (l : Label) (vs rest : List ℕ) → Buildable l vs
+    → ((i : ℕ) → 1 ≤ i → i ≤ 255 → wordAt (blockBytes l vs ++ rest) i ≡ heldAt l vs i)
+    × (labelOf (blockBytes l vs ++ rest) ≡ l)
+    × (valuesOf (blockBytes l vs ++ rest) ≡ vs)
+
+-- A true block is the block written from the label and the values that it has: word for word, and, each byte being below 256, byte for byte.
+abbrev pub TrueWritten : Type 0
+TrueWritten = (b : List ℕ) → TrueBlock b
+    → Buildable (labelOf b) (valuesOf b)
+    × ((i : ℕ) → 1 ≤ i → i ≤ 256 → wordAt (blockBytes (labelOf b) (valuesOf b)) i ≡ wordAt b i)
+    × (((i : ℕ) → getD b i 0 < 256) → blockBytes (labelOf b) (valuesOf b) ≡ take 512 b)
+
+-- What is said of a block depends on its 256 words alone: the lines 15, 16 and 17, words 1 to 7, and whether it is true.
+abbrev pub OnlyWords : Type 0
+OnlyWords = (b c : List ℕ) → ((i : ℕ) → 1 ≤ i → i ≤ 256 → wordAt b i ≡ wordAt c i)
+    → ((a : ℕ) → blockLines b a ≡ blockLines c a) × (headerOf b ≡ headerOf c) × (TrueBlock b → 512 ≤ length c → TrueBlock c)
 
 -- "A true block is one that passes 15, 16 and 17": as block a of a pile, whatever a is; and whatever passes them is one.
 abbrev pub TrueMeans : Type 0

@@ -1,22 +1,22 @@
--- "The card block": what each of its words holds, and the first word that does not.
--- Assumes nothing.
-use Prim.Native.Nat.{ℕ, _+_, _≤_}
+-- The layout of a block: one table of what each of words 1 to 255 holds, and the range of what it holds. What is written is this table,
+-- and what is read is held against it. Assumes nothing.
+use Prim.Native.Nat.{ℕ, _+_, _-_, _≤_}
 use mathlib.Core.Path.{_≡_}
-use mathlib.Core.Bool.{Bool, cond, not, _&&_, _||_}
+use mathlib.Core.Bool.{Bool, true, cond, not, _&&_}
 use mathlib.Core.List.{List, [], _∷_}
 use lib.Dec.{leb, eqb}
+use lib.ListN.{getD}
+use Rattle.lists.specs.Run.{run}
 use Rattle.answer.specs.Places.{firstIn}
+use Rattle.block.specs.declared.Label.{Label}
 use Rattle.block.specs.Words.{wordAt}
+use Rattle.block.specs.Deals.{dealWords}
 
--- "its words 1 to 7"
+-- words 1 to 7 of b, which opening answers
 abbrev pub headerOf : List ℕ → List ℕ
 headerOf b = wordAt b 1 ∷ wordAt b 2 ∷ wordAt b 3 ∷ wordAt b 4 ∷ wordAt b 5 ∷ wordAt b 6 ∷ wordAt b 7 ∷ []
 
--- the words that say which deal a block is of: deal number, n, k, w ("words 2, 4, 5, 6")
-abbrev pub dealOf : List ℕ → List ℕ
-dealOf b = wordAt b 2 ∷ wordAt b 4 ∷ wordAt b 5 ∷ wordAt b 6 ∷ []
-
--- "piece number j"
+-- the number of the piece
 abbrev pub pieceOf : List ℕ → ℕ
 pieceOf b = wordAt b 7
 
@@ -24,38 +24,65 @@ pieceOf b = wordAt b 7
 abbrev pub widthOf : List ℕ → ℕ
 widthOf b = wordAt b 6
 
+-- ---- the table
+-- what word i holds, 1 to 255, in the block with this label and these values: from word 8 on the values, and past them 0
+unfoldable pub heldAt : Label → List ℕ → ℕ → ℕ
+heldAt l vs i =
+    cond (eqb i 1) 1987
+    (cond (eqb i 2) (l .deal .number)
+    (cond (eqb i 3) (l .holder)
+    (cond (eqb i 4) (l .deal .people)
+    (cond (eqb i 5) (l .deal .pieces)
+    (cond (eqb i 6) (l .deal .width)
+    (cond (eqb i 7) (l .piece)
+    (getD vs (i - 8) 0)))))))
+
 -- v is low to high
 abbrev pub within : ℕ → ℕ → ℕ → Bool
 within low v high = leb low v && leb v high
 
--- word i, 1 to 255, keeps the layout: "1987"; "word 2 is not 0"; "word 3 is 1 to 8; word 4 is 1 to 8 and at least word 3; word 5 is 1 to
--- 70; word 6 is 1 to 16; word 7 is 1 to word 5"; words 8 to 7+w are the values; "8+w to 255: 0"
+-- what word i holds is in its range: a deal number that is not 0, a holder of 1 to 8, at most 8 people with the holder among them, k of
+-- 1 to 70, w of 1 to 16, a piece of 1 to k
+unfoldable pub rangeAt : Label → ℕ → Bool
+rangeAt l i =
+    cond (eqb i 2) (not (eqb (l .deal .number) 0))
+    (cond (eqb i 3) (within 1 (l .holder) 8)
+    (cond (eqb i 4) (within 1 (l .deal .people) 8 && leb (l .holder) (l .deal .people))
+    (cond (eqb i 5) (within 1 (l .deal .pieces) 70)
+    (cond (eqb i 6) (within 1 (l .deal .width) 16)
+    (cond (eqb i 7) (within 1 (l .piece) (l .deal .pieces))
+    true)))))
+
+-- every word's is
+pub record Ranged (l : Label) : Type 0 where
+  pub range : (i : ℕ) → rangeAt l i ≡ true
+
+-- ---- a block against the table
+-- the label that b has
+abbrev pub labelOf : List ℕ → Label
+labelOf b = record { deal = dealWords b; holder = wordAt b 3; piece = pieceOf b }
+
+-- the w values that b has
+unfoldable pub valuesOf : List ℕ → List ℕ
+valuesOf b = run (λ i. wordAt b (7 + i)) 1 (widthOf b)
+
+-- word i of b is what the table has there, for the label and the values that b has, and in its range
 unfoldable pub rightAt : List ℕ → ℕ → Bool
-rightAt b i =
-    cond (eqb i 1) (eqb (wordAt b i) 1987)
-    (cond (eqb i 2) (not (eqb (wordAt b i) 0))
-    (cond (eqb i 3) (within 1 (wordAt b i) 8)
-    (cond (eqb i 4) (within 1 (wordAt b i) 8 && leb (wordAt b 3) (wordAt b i))
-    (cond (eqb i 5) (within 1 (wordAt b i) 70)
-    (cond (eqb i 6) (within 1 (wordAt b i) 16)
-    (cond (eqb i 7) (within 1 (wordAt b i) (wordAt b 5))
-    (leb i (7 + widthOf b) || eqb (wordAt b i) 0)))))))
+rightAt b i = eqb (wordAt b i) (heldAt (labelOf b) (valuesOf b) i) && rangeAt (labelOf b) i
+
+-- the first of words 1 to 255 that breaks the layout, or 0
+unfoldable pub firstWrong : List ℕ → ℕ
+firstWrong b = firstIn (λ i. not (rightAt b i)) 1 256
+
+-- no word breaks it
+pub record Layout (b : List ℕ) : Type 0 where
+  pub word : (i : ℕ) → 1 ≤ i → i ≤ 255 → wordAt b i ≡ heldAt (labelOf b) (valuesOf b) i
+  pub ranged : Ranged (labelOf b)
+
+-- the words that say which deal a block is of
+abbrev pub dealOf : List ℕ → List ℕ
+dealOf b = wordAt b 2 ∷ wordAt b 4 ∷ wordAt b 5 ∷ wordAt b 6 ∷ []
 
 -- word i is not 0
 abbrev pub filled : List ℕ → ℕ → Bool
 filled b i = not (eqb (wordAt b i) 0)
-
--- "first wrong word": the first of words 1 to 255 that breaks the layout, or 0. "HEADER takes words in order"
-unfoldable pub firstWrong : List ℕ → ℕ
-firstWrong b = firstIn (λ i. not (rightAt b i)) 1 256
-
--- the layout, word by word
-pub record Layout (b : List ℕ) : Type 0 where
-  pub mark : wordAt b 1 ≡ 1987
-  pub deal : 1 ≤ wordAt b 2
-  pub holder : (1 ≤ wordAt b 3) × (wordAt b 3 ≤ 8)
-  pub people : (1 ≤ wordAt b 4) × (wordAt b 4 ≤ 8) × (wordAt b 3 ≤ wordAt b 4)
-  pub pieces : (1 ≤ wordAt b 5) × (wordAt b 5 ≤ 70)
-  pub width : (1 ≤ widthOf b) × (widthOf b ≤ 16)
-  pub piece : (1 ≤ pieceOf b) × (pieceOf b ≤ wordAt b 5)
-  pub zeros : (i : ℕ) → 8 + widthOf b ≤ i → i ≤ 255 → wordAt b i ≡ 0

@@ -3,7 +3,7 @@
 use Prim.Native.Nat.{ℕ, _*_, _≤_}
 use mathlib.Core.Path.{_≡_}
 use mathlib.Core.Bool.{Bool, cond, not}
-use mathlib.Core.List.{List, [], _∷_}
+use mathlib.Core.List.{List, [], _∷_, _++_}
 use lib.ListN.{length, take, drop}
 use lib.Dec.{eqb, ltb}
 use Rattle.answer.specs.declared.Kind.the-variants.{Torn, Unread, Check, Header}
@@ -44,9 +44,13 @@ check b a = line Check (not (eqb (checkOf b) (wordAt b 256))) a 0
 abbrev pub header : List ℕ → ℕ → Line
 header b a = line Header (found (firstWrong b)) a (firstWrong b)
 
--- "each for 15, 16, 17": the lines of b, which is block a
+-- 15 and 16 of b, which is block a: what its slots hold, whatever their meaning
+abbrev pub slotLines : List ℕ → ℕ → List Line
+slotLines b a = unread b a ∷ check b a ∷ []
+
+-- 15, 16 and 17 of b, which is block a
 abbrev pub blockLines : List ℕ → ℕ → List Line
-blockLines b a = unread b a ∷ check b a ∷ header b a ∷ []
+blockLines b a = slotLines b a ++ header b a ∷ []
 
 -- opening the first block of a pile
 unfoldable pub opening : List ℕ → Outcome (List ℕ)

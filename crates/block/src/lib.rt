@@ -9,6 +9,7 @@ pub use deal::DealWords;
 pub use deal::deal_words;
 pub use deal::same_deal;
 pub use reading::check_block;
+pub use reading::check_slots;
 pub use reading::open;
 pub use reading::values;
 pub use writing::write_at;
@@ -26,6 +27,13 @@ pub struct Words {
     pub people: u16,
     pub pieces: u16,
     pub width: u16,
+    pub piece: u16,
+}
+
+// What a block is written from, beside the values of its piece.
+pub struct Label {
+    pub deal: DealWords,
+    pub holder: u16,
     pub piece: u16,
 }
 

@@ -13,7 +13,7 @@ ghost use Rattle.answer.specs.Outcome.{outcome, done};
 ghost use Rattle.answer.specs.Checks.{firstFail};
 ghost use Rattle.answer.specs.Places.{firstIn};
 ghost use Rattle.block.specs.Layout.{headerOf, within, rightAt, filled, firstWrong};
-ghost use Rattle.block.specs.Open.{firstAbove, cleanCheck, blockLines, opening, valueBytes, valueStart, wordsOf, opened};
+ghost use Rattle.block.specs.Open.{firstAbove, cleanCheck, slotLines, blockLines, opening, valueBytes, valueStart, wordsOf, opened};
 
 // What one pass over a block finds: the first word above 32748, or 0, and the check of words 1 to 255 where there is none.
 struct Seen {
@@ -77,14 +77,13 @@ fn right(b: &[u8], i: usize) -> bool
     }
 }
 
-// The first word from `start` to 255 that is not 0, or 0.
-fn first_filled(b: &[u8], start: usize) -> usize
-    requires { ⌜ 510 ≤ length (now b) ⌝ }
-    requires { ⌜ 1 ≤ start ⌝ }
-    ensures { λ r. ⌜ r ≡ firstIn (filled (now (b .entry))) start 256 ⌝ }
+// The first word from `start` on, before `end`, that is not 0, or 0.
+fn first_filled(b: &[u8], start: usize, end: usize) -> usize
+    requires { ⌜ (1 ≤ start) × (end ≤ 256) × (510 ≤ length (now b)) ⌝ }
+    ensures { λ r. ⌜ r ≡ firstIn (filled (now (b .entry))) start end ⌝ }
 {
     let mut i = start;
-    while i < 256 {
+    while i < end {
         let v = word(b, i);
         if v != 0 {
             return i;
@@ -109,13 +108,13 @@ fn first_wrong(b: &[u8]) -> usize
         }
     }
     let width = word(b, 6);
-    first_filled(b, 8 + width as usize)
+    first_filled(b, 8 + width as usize, 256)
 }
 
-// The first block of the rest of a pile, which is block a, for UNREAD, CHECK and HEADER.
-pub fn check_block(rest: &[u8], a: usize) -> Answer
+// The first block of the rest of a pile, which is block a, for UNREAD and CHECK.
+pub fn check_slots(rest: &[u8], a: usize) -> Answer
     requires { ⌜ 512 ≤ length (now rest) ⌝ }
-    ensures { λ r. ⌜ outcome r ≡ firstFail (blockLines (now (rest .entry)) a) (done 0) ⌝ }
+    ensures { λ r. ⌜ outcome r ≡ firstFail (slotLines (now (rest .entry)) a) (done 0) ⌝ }
 {
     let seen = scan(rest);
     let dirty = seen.dirty;
@@ -126,6 +125,17 @@ pub fn check_block(rest: &[u8], a: usize) -> Answer
     let kept = word(rest, 256);
     if sum != kept {
         return answer::refuse(Kind::Check, a, 0);
+    }
+    Answer::Done(0)
+}
+
+// The same block for UNREAD, CHECK and HEADER.
+pub fn check_block(rest: &[u8], a: usize) -> Answer
+    requires { ⌜ 512 ≤ length (now rest) ⌝ }
+    ensures { λ r. ⌜ outcome r ≡ firstFail (blockLines (now (rest .entry)) a) (done 0) ⌝ }
+{
+    if let Answer::Refused(r) = check_slots(rest, a) {
+        return Answer::Refused(r);
     }
     let wrong = first_wrong(rest);
     if wrong != 0 {

@@ -1,13 +1,14 @@
 // Writing a block: words 1 to 255 one after the other, their check made on the way.
-use crate::Words;
+use crate::Label;
 use crate::weigh;
 ghost use mathlib.Core.Path.{_≡_};
 ghost use mathlib.Core.List.{_++_};
 ghost use Prim.Native.Nat.{_+_, _-_, _*_, _≤_};
-ghost use lib.ListN.{length, getD, take, drop};
+ghost use lib.ListN.{length, take, drop};
 ghost use Rattle.answer.specs.Lent.{over};
 ghost use Rattle.block.specs.Words.{putAt};
-ghost use Rattle.block.specs.Written.{body, blockBytes, Buildable};
+ghost use Rattle.block.specs.Layout.{heldAt};
+ghost use Rattle.block.specs.Written.{blockBytes, Buildable};
 
 // Writes v at word i of b.
 fn put_word(b: &mut [u8], i: usize, v: u16)
@@ -20,19 +21,19 @@ fn put_word(b: &mut [u8], i: usize, v: u16)
 }
 
 // Word i of a block that is written, i from 1 to 255.
-fn body_word(i: usize, h: Words, values: &[u16]) -> u16
+fn body_word(i: usize, l: Label, values: &[u16]) -> u16
     requires { ⌜ (1 ≤ i) × (i ≤ 255) ⌝ }
-    requires { ⌜ length (now values) ≤ 248 ⌝ }
-    ensures { λ r. ⌜ r ≡ getD (body h (now (values .entry))) (i - 1) 0 ⌝ }
+    ensures { λ r. ⌜ r ≡ heldAt l (now (values .entry)) i ⌝ }
 {
+    let deal = l.deal;
     match i {
-        1 => h.mark,
-        2 => h.deal,
-        3 => h.holder,
-        4 => h.people,
-        5 => h.pieces,
-        6 => h.width,
-        7 => h.piece,
+        1 => 1987,
+        2 => deal.number,
+        3 => l.holder,
+        4 => deal.people,
+        5 => deal.pieces,
+        6 => deal.width,
+        7 => l.piece,
         _ => {
             let at = i - 8;
             if at < values.len() { values[at] } else { 0 }
@@ -40,16 +41,16 @@ fn body_word(i: usize, h: Words, values: &[u16]) -> u16
     }
 }
 
-// Writes one block, with words 1 to 7 and the values, into the first 512 bytes of out; the rest stays.
-pub fn write_block(out: &mut [u8], h: Words, values: &[u16])
+// Writes one block, with this label and these values, into the first 512 bytes of out; the rest stays.
+pub fn write_block(out: &mut [u8], l: Label, values: &[u16])
     requires { ⌜ 512 ≤ length (now out) ⌝ }
-    requires { ⌜ Buildable h (now values) ⌝ }
-    ensures { λ _. ⌜ now (out .exit) ≡ over (blockBytes h (now (values .entry))) (now (out .entry)) ⌝ }
+    requires { ⌜ Buildable l (now values) ⌝ }
+    ensures { λ _. ⌜ now (out .exit) ≡ over (blockBytes l (now (values .entry))) (now (out .entry)) ⌝ }
 {
     let mut sum: u32 = 0;
     let mut i: usize = 1;
     while i < 256 {
-        let v = body_word(i, h, values);
+        let v = body_word(i, l, values);
         put_word(out, i, v);
         sum = weigh(sum, i, v);
         i += 1;
@@ -58,10 +59,10 @@ pub fn write_block(out: &mut [u8], h: Words, values: &[u16])
 }
 
 // Writes one block into out from byte `at` on; the rest stays.
-pub fn write_at(out: &mut [u8], at: usize, h: Words, values: &[u16])
+pub fn write_at(out: &mut [u8], at: usize, l: Label, values: &[u16])
     requires { ⌜ at + 512 ≤ length (now out) ⌝ }
-    requires { ⌜ Buildable h (now values) ⌝ }
-    ensures { λ _. ⌜ now (out .exit) ≡ take at (now (out .entry)) ++ over (blockBytes h (now (values .entry))) (drop at (now (out .entry))) ⌝ }
+    requires { ⌜ Buildable l (now values) ⌝ }
+    ensures { λ _. ⌜ now (out .exit) ≡ take at (now (out .entry)) ++ over (blockBytes l (now (values .entry))) (drop at (now (out .entry))) ⌝ }
 {
-    write_block(&mut out[at..], h, values);
+    write_block(&mut out[at..], l, values);
 }

@@ -1,7 +1,8 @@
 // P11's block, byte by byte, and what opening says of it: as it is, in a shorter and a longer pile, and with one word changed.
 // What it prints is compared with `stdout`.
 use block::Opened;
-use block::Words;
+use block::DealWords;
+use block::Label;
 ghost use mathlib.Core.Path.{_≡_};
 ghost use Prim.Native.Nat.{_≤_};
 ghost use lib.ListN.{length};
@@ -63,17 +64,19 @@ fn p11() -> [u8; 600]
     ensures { λ r. ⌜ 600 ≡ length r ⌝ }
 {
     let mut out = [9u8; 600];
-    let h = Words {
-        mark: 1987,
-        deal: 7,
-        holder: 4,
+    let deal = DealWords {
+        number: 7,
         people: 4,
         pieces: 3,
         width: 1,
+    };
+    let l = Label {
+        deal: deal,
+        holder: 4,
         piece: 1,
     };
     let values = [1246u16];
-    block::write_block(&mut out, h, &values);
+    block::write_block(&mut out, l, &values);
     out
 }
 

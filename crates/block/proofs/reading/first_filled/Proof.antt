@@ -4,6 +4,7 @@ use mathlib.Core.Path.{_≡_, refl, sym, ap, _∙_}
 use mathlib.Core.Bool.{not}
 use Prim.Native.Nat.{_-_, _≤_}
 use native.Mathlib.Omega.{arith}
+use borrow.Author.Needs.{needs}
 use borrow.Author.Tests.{eq-eqb, ne-eqb}
 use Rattle.answer.specs.Places.{firstIn}
 use Rattle.block.specs.Words.{wordAt}
@@ -13,22 +14,22 @@ use Rattle.block.proofs.reading.first_filled.Statement.{statement}
 use Rattle.block.proofs.reading.first_filled.Tie as tie
 
 abbrev Inv-loop : tie.InvT-loop
-Inv-loop b start i₀ i = (1 ≤ i) × (firstIn (filled b) start 256 ≡ firstIn (filled b) i 256)
+Inv-loop b start end i₀ i = (1 ≤ i) × (firstIn (filled b) start end ≡ firstIn (filled b) i end)
 
 abbrev μ-loop : tie.MeasureT-loop
-μ-loop b start i₀ i = 256 - i
+μ-loop b start end i₀ i = end - i
 
 loop-holds : tie.Need-loop-holds Inv-loop μ-loop
-loop-holds c = (c .before .pre .1, refl)
+loop-holds c = (c .before .pre .0, refl)
 
 word-requires : tie.Need-word-requires Inv-loop μ-loop
-word-requires c κs = omega arith
+word-requires c κs = search needs
 
 returns : tie.Need-returns Inv-loop μ-loop
 returns c =
     let l = c .before .before .before .loop in
     let b = now (c .before .before .before .before .before .args .b) in
-    sym (l .inv .1 ∙ first-hit (filled b) (l .i) 256 (c .before .before .loop-test .taken)
+    sym (l .inv .1 ∙ first-hit (filled b) (l .i) (c .before .before .before .before .before .args .end) (c .before .before .loop-test .taken)
     (ap not (ne-eqb (wordAt b (l .i)) 0 (λ e. c .if1 .taken (c .before .word .ensures ∙ e)))))
 
 add-i : tie.Need-add-i Inv-loop μ-loop
@@ -42,14 +43,14 @@ loop-again c =
     let l = c .before .before .before .loop in
     let b = now (c .before .before .before .before .before .args .b) in (
       omega arith,
-      l .inv .1 ∙ first-miss (filled b) (l .i) 256 (c .before .before .loop-test .taken)
+      l .inv .1 ∙ first-miss (filled b) (l .i) (c .before .before .before .before .before .args .end) (c .before .before .loop-test .taken)
           (ap not (eq-eqb (wordAt b (l .i)) 0 (sym (c .before .word .ensures) ∙ c .if1 .left))),
     )
 
 returns-2 : tie.Need-returns-2 Inv-loop μ-loop
 returns-2 c =
     let l = c .before .loop in
-    sym (l .inv .1 ∙ first-none (filled (now (c .before .before .before .args .b))) (l .i) 256 (c .loop-test .left))
+    sym (l .inv .1 ∙ first-none (filled (now (c .before .before .before .args .b))) (l .i) (c .before .before .before .args .end) (c .loop-test .left))
 
 pub first-filled-spec : {M : Type 1} → statement M
 first-filled-spec = tie.close (tie.spec Inv-loop μ-loop loop-holds word-requires returns add-i loop-less loop-again returns-2)

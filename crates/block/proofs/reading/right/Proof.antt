@@ -1,14 +1,23 @@
 -- `block::reading::right` meets its contract, word by word. Assumes nothing.
-use Prim.Native.Nat.{ℕ}
+use Prim.Native.Nat.{ℕ, _≤_}
+use mathlib.Core.List.{List}
 use mathlib.Core.Path.{_≡_, sym, ap, _∙_}
 use mathlib.Core.Bool.{true, false}
 use native.Mathlib.Omega.{arith}
 use denote.Ref.{now}
 use Rattle.block.specs.Words.{wordAt}
-use Rattle.block.specs.Layout.{within, rightAt}
+use Rattle.block.specs.Layout.{within, rangeAt, labelOf, rightAt}
+use Rattle.block.proofs.LayoutLaws.{right-mark, right-own}
 use borrow.Author.Needs.{needs}
 use Rattle.block.proofs.reading.right.Statement.{statement}
 use Rattle.block.proofs.reading.right.Tie as tie
+
+-- words 2 to 7 are right where they are in their range
+abbrev block : tie.Start → List ℕ
+block c = now (c .args .b)
+
+own : (c : tie.Start) (i : ℕ) → 2 ≤ i → i ≤ 7 → rightAt (block c) i ≡ rangeAt (labelOf (block c)) i
+own c i l h = right-own (block c) i l h
 
 -- word 4, and that the last arm is word 7
 word-four : (k : tie.At-match-keys4) → k .before .word .result ≡ wordAt (now (k .before .before .before .args .b)) 4
@@ -42,47 +51,46 @@ within-requires-5 : tie.Need-within-requires-5
 within-requires-5 c κs = search needs
 
 returns : tie.Need-returns
-unfolding rightAt
-returns c = simp (c .before .word .ensures, c .match .keys1)
+returns c = simp (c .before .word .ensures, c .match .keys1, right-mark (block (c .before .before .before)))
 
 returns-2 : tie.Need-returns-2
-unfolding rightAt
-returns-2 c = simp (c .before .word .ensures, c .match .keys2)
+unfolding rangeAt
+returns-2 c = simp (c .before .word .ensures, c .match .keys2, own (c .before .before .before) 2 (omega arith) (omega arith))
 
 returns-3 : tie.Need-returns-3
-unfolding rightAt
-returns-3 c = simp (c .within .ensures, c .before .before .word .ensures, c .before .match .keys3)
+unfolding rangeAt
+returns-3 c = simp (c .within .ensures, c .before .before .word .ensures, c .before .match .keys3, own (c .before .before .before .before) 3 (omega arith) (omega arith))
 
 returns-4 : tie.Need-returns-4
-unfolding rightAt
+unfolding rangeAt
 returns-4 c =
     let k = c .before .before .before in
     let b = now (k .before .before .before .args .b) in
     let w = word-four k in
     let t : within 1 (wordAt b 4) 8 ≡ true = ap (λ (v : ℕ). within 1 v 8) (sym w) ∙ sym (c .before .within2 .ensures) ∙ c .if1 .taken in
-    simp (c .before .before .word2 .ensures, w, k .match .keys4, t)
+    simp (c .before .before .word2 .ensures, w, k .match .keys4, own (k .before .before .before) 4 (omega arith) (omega arith), t)
 
 returns-5 : tie.Need-returns-5
-unfolding rightAt
+unfolding rangeAt
 returns-5 c =
     let k = c .before .before .before in
     let b = now (k .before .before .before .args .b) in
     let t : within 1 (wordAt b 4) 8 ≡ false = ap (λ (v : ℕ). within 1 v 8) (sym (word-four k)) ∙ sym (c .before .within2 .ensures) ∙ c .if1 .left in
-    simp (k .match .keys4, t)
+    simp (k .match .keys4, own (k .before .before .before) 4 (omega arith) (omega arith), t)
 
 returns-6 : tie.Need-returns-6
-unfolding rightAt
-returns-6 c = simp (c .within3 .ensures, c .before .before .word .ensures, c .before .match .keys5)
+unfolding rangeAt
+returns-6 c = simp (c .within3 .ensures, c .before .before .word .ensures, c .before .match .keys5, own (c .before .before .before .before) 5 (omega arith) (omega arith))
 
 returns-7 : tie.Need-returns-7
-unfolding rightAt
-returns-7 c = simp (c .within4 .ensures, c .before .before .word .ensures, c .before .match .keys6)
+unfolding rangeAt
+returns-7 c = simp (c .within4 .ensures, c .before .before .word .ensures, c .before .match .keys6, own (c .before .before .before .before) 6 (omega arith) (omega arith))
 
 returns-8 : tie.Need-returns-8
-unfolding rightAt
+unfolding rangeAt
 returns-8 c =
     let k = c .before .before in
-    simp (c .within5 .ensures, k .before .word .ensures, c .before .word3 .ensures, seven k)
+    simp (c .within5 .ensures, k .before .word .ensures, c .before .word3 .ensures, seven k, own (k .before .before .before) 7 (omega arith) (omega arith))
 
 pub right-spec : {M : Type 1} → statement M
 right-spec =

@@ -24,7 +24,7 @@ same-length c = search needs
 returns : tie.Need-returns
 returns c =
     let a = c .before .before .before .before .before .before .args in
-    part-written (now (a .out)) (c .before .before .write-block .last .0) (blockBytes (a .h) (now (a .values))) (a .at) (c .before .before .write-block .ensures)
+    part-written (now (a .out)) (c .before .before .write-block .last .0) (blockBytes (a .l) (now (a .values))) (a .at) (c .before .before .write-block .ensures)
 
 pub write-at-spec : {M : Type 1} → statement M
 write-at-spec =

@@ -7,18 +7,14 @@ use lib.ListN.{length}
 use native.Mathlib.Omega.{arith}
 use borrow.Author.Needs.{needs}
 use Rattle.block.proofs.WritingLaws.{Writing, write-start, write-on, write-end}
-use Rattle.block.proofs.BodyLaws.{body-small}
 use Rattle.block.proofs.writing.write_block.Statement.{statement}
 use Rattle.block.proofs.writing.write_block.Tie as tie
 
 abbrev Inv-loop : tie.InvT-loop
-Inv-loop out₀ h values sum₀ i₀ out sum i = Writing h values out₀ out sum i
+Inv-loop out₀ l values sum₀ i₀ out sum i = Writing l values out₀ out sum i
 
 abbrev μ-loop : tie.MeasureT-loop
-μ-loop out₀ h values sum₀ i₀ out sum i = 256 - i
-
-few : (st : tie.Start Inv-loop μ-loop) → length (now (st .args .values)) ≤ 248
-few st = omega (arith, st .pre .1 .width-in)
+μ-loop out₀ l values sum₀ i₀ out sum i = 256 - i
 
 loop-holds : tie.Need-loop-holds Inv-loop μ-loop
 loop-holds c = write-start _ _ _
@@ -33,7 +29,7 @@ weigh-requires : tie.Need-weigh-requires Inv-loop μ-loop
 weigh-requires c κs =
     let k = c .before .before .before .before in
     let st = k .before .before .before .before .before in
-    let small = body-small (st .args .h) (now (st .args .values)) (st .pre .1) (k .before .before .loop .i - 1) in
+    let small = st .pre .1 .small (k .before .before .loop .i) (omega arith) (omega arith) in
     (omega arith, search needs)
 
 add-i : tie.Need-add-i Inv-loop μ-loop
@@ -47,7 +43,7 @@ loop-again c =
     let k = c .before .before .before .before .before in
     let st = k .before .before .before .before .before in
     let w = c .before .before .before .put-word in
-    write-on _ _ _ _ _ _ (few st) (st .pre .0) (k .before .before .loop .inv) (omega arith) _ (k .body-word .ensures) _ (w .kept .0) (w .ensures) _
+    write-on _ _ _ _ _ _ (st .pre .0) (k .before .before .loop .inv) (omega arith) _ (k .body-word .ensures) _ (w .kept .0) (w .ensures) _
     (c .weigh .ensures .0) (c .weigh .ensures .1)
 
 cast-put-word : tie.Need-cast-put-word Inv-loop μ-loop
@@ -63,7 +59,7 @@ returns : tie.Need-returns Inv-loop μ-loop
 returns c =
     let k = c .before .before .before .before .before in
     let st = k .before .before .before in
-    c .before .before .put-word2 .ensures ∙ write-end _ _ _ _ _ _ (few st) (st .pre .0) (k .loop .inv) (omega arith)
+    c .before .before .put-word2 .ensures ∙ write-end _ _ _ _ _ _ (st .pre .0) (k .loop .inv) (omega arith)
 
 pub write-block-spec : {M : Type 1} → statement M
 write-block-spec =
