@@ -52,7 +52,7 @@ module _ (d : Deal) (made : Made d) (g : ℕ) (group : Group d g) (none : ¬ Con
   unfolding pieceCount values held
   same-card random r i m =
       card-depends (again d other (pairing .pairs .there random)) (again d (d .secret) random) i refl refl refl
-      (λ j h. let b = held-in d i j h in pairing .same random r j (b .0) (b .1) (other-piece d i (lost .0) j (lost .3 i m) h))
+      (λ j h. let b = held-in d i j h in pairing .same random r j (record { least = b .0; most = b .1; unlike = other-piece d i (lost .0) j (lost .3 i m) h }))
 
   pub hidden : Hidden d g other
   hidden =

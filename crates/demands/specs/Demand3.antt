@@ -6,7 +6,8 @@ use mathlib.Core.List.{List, _++_}
 use lib.ListN.{length, drop}
 use Rattle.answer.specs.Outcome.{Outcome, done, refused}
 use Rattle.field.specs.Poly.{Below}
-use Rattle.field.specs.Pieces.{Random, Matched}
+use Rattle.field.specs.Hiding.{Matched}
+use Rattle.field.specs.Pieces.{Random}
 use Rattle.planning.specs.Groups.{_∈_}
 use Rattle.dealing.specs.Deal.{Deal, again, pieceCount, card}
 use Rattle.dealing.specs.Dealt.{Made, dealing, dealtInto}

@@ -12,6 +12,7 @@ use Rattle.field.proofs.RoundTrip as trip
 use Rattle.field.proofs.Loosened as loosened
 use Rattle.field.proofs.Curve as curve
 use Rattle.field.proofs.Pairing as pairing
+use Rattle.field.proofs.HidingLaws as hiding
 use Rattle.field.proofs.Table as table
 
 pub no-divisor : law.NoDivisor
@@ -49,8 +50,11 @@ paired-some k m ds ds′ h l u e =
     let r = loose-some k m h l u in
     pairing.paired-by k m (r .0) (r .1) ds ds′ e
 
+pub none-favoured : law.NoneFavoured
+none-favoured X Y W A B one other member = hiding.none-favoured
+
 pub hidden-gives : law.HiddenGives
-hidden-gives k m v ds ds′ h l u e = pairing.gives-by k m v ds ds′ (paired-some k m ds ds′ h l u e)
+hidden-gives k m v ds ds′ h l u e = hiding.none-favoured (paired-some k m ds ds′ h l u e) v
 
 pub weights-are : law.WeightsAre
 weights-are = table.table-weights

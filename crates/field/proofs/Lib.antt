@@ -10,5 +10,6 @@ pub mod Loosened
 pub mod Products
 pub mod Curve
 pub mod Table
+pub mod HidingLaws
 pub mod Pairing
 pub mod Laws

@@ -9,7 +9,7 @@ use native.Mathlib.Nat.{suc-inj, suc-ne-zero, le-of-eq}
 use lib.ListN.{length, take, drop, length-append, length-drop, take-append-drop}
 use lib.Seq.{take-at, drop-at, length-take-le}
 use Rattle.field.specs.Poly.{value, Below, piece}
-use Rattle.field.specs.Pieces.{values, Random, Matched, Paired, Gives}
+use Rattle.field.specs.Pieces.{values, Random, Other, Paired}
 use Rattle.field.specs.Joined.{minus}
 use Rattle.field.specs.Laws.{Loose}
 use Rattle.field.proofs.Mod.{_≈_, _then_, from≡, add≈, mul≈, mod≈, small, minus≈}
@@ -138,8 +138,8 @@ module _ (k m : ℕ) (cs : List ℕ) (loose : Loose k m cs) where
     again : shifts cs ds′ ds (shifts cs ds ds′ rs) ≡ rs
     again = shifts-back cs ds ds′ rs (r .below) e (counted (length ds) rs r)
 
-    kept : (j : ℕ) → 1 ≤ j → j ≤ k → j ≢ m → values (k - 1) ds′ (shifts cs ds ds′ rs) j ≡ values (k - 1) ds rs j
-    kept j a b c = rw (← count) (shifts-values cs ds ds′ rs j (record { same = loose .none j a b c }) e (counted (length ds) rs r))
+    kept : (j : ℕ) → Other k m j → values (k - 1) ds′ (shifts cs ds ds′ rs) j ≡ values (k - 1) ds rs j
+    kept j o = rw (← count) (shifts-values cs ds ds′ rs j (record { same = loose .none j (o .least) (o .most) (o .unlike) }) e (counted (length ds) rs r))
 
 pub paired-by : (k m : ℕ) (cs : List ℕ) → Loose k m cs → (ds ds′ : List ℕ) → length ds ≡ length ds′ → Paired k m ds ds′
 paired-by k m cs l ds ds′ e = record {
@@ -152,22 +152,4 @@ paired-by k m cs l ds ds′ e = record {
     there-back = again k m cs l ds′ ds (sym e);
   };
   same = kept k m cs l ds ds′ e;
-}
-
--- and so, whatever values the other pieces have
-pub gives-by : (k m : ℕ) (v : ℕ → List ℕ) (ds ds′ : List ℕ) → Paired k m ds ds′ → Matched (Gives k m v ds) (Gives k m v ds′)
-gives-by k m v ds ds′ q = record {
-  there = q .pairs .there;
-  back = q .pairs .back;
-  there-in = λ r g. record { random = q .pairs .there-in r (g .random); gives = λ j a b c. q .same r (g .random) j a b c ∙ g .gives j a b c };
-  back-in = λ r g.
-      let lent = q .pairs .back-in r (g .random) in
-      record {
-        random = lent;
-        gives = λ j a b c.
-            sym (q .same (q .pairs .back r) lent j a b c)
-            ∙ ap (λ (x : List ℕ). values (k - 1) ds′ x j) (q .pairs .there-back r (g .random)) ∙ g .gives j a b c;
-      };
-  back-there = λ r g. q .pairs .back-there r (g .random);
-  there-back = λ r g. q .pairs .there-back r (g .random);
 }

@@ -5,9 +5,10 @@ use mathlib.Core.Logic.{_≢_}
 use mathlib.Core.List.{List, _∷_}
 use Prim.Native.Nat.{ℕ, _-_, _*_, _%_, _≤_, _<_}
 use lib.ListN.{length, getD, take, drop, replicate}
-use Rattle.field.specs.Poly.{p, Below, value, piece, Through, One}
 use Rattle.lists.specs.Run.{run}
-use Rattle.field.specs.Pieces.{values, Random, Matched, Paired, Gives}
+use Rattle.field.specs.Poly.{p, Below, value, piece, Through, One}
+use Rattle.field.specs.Hiding.{Matched, Hidden, Gives}
+use Rattle.field.specs.Pieces.{values, Random, Paired, GivesValues}
 use Rattle.field.specs.Joined.{joined}
 use Rattle.field.specs.Inverse.{inverse}
 use Rattle.field.specs.Lagrange.{Weights, weightsOf}
@@ -63,11 +64,16 @@ LooseSome = (k m : ℕ) → k < p → 1 ≤ m → m ≤ k → (cs : List ℕ) ×
 abbrev pub PairedSome : Type 0
 PairedSome = (k m : ℕ) (ds ds′ : List ℕ) → k < p → 1 ≤ m → m ≤ k → length ds ≡ length ds′ → Paired k m ds ds′
 
+-- What is hidden is not favoured by what is seen: whatever the members see, it comes from as much randomness of the one as of the other.
+abbrev pub NoneFavoured : Type 1
+NoneFavoured = (X Y W : Type 0) (A : X → Type 0) (B : Y → Type 0) (one : X → W → List ℕ) (other : Y → W → List ℕ) (member : W → Type 0)
+    → Hidden A B one other member → (c : W → List ℕ) → Matched (Gives A one member c) (Gives B other member c)
+
 -- "so with even randomness the cards favour no secret": whatever values the pieces but m have, any two secrets of as many words have equally
 -- many lists of randomness that give them.
 abbrev pub HiddenGives : Type 0
 HiddenGives = (k m : ℕ) (v : ℕ → List ℕ) (ds ds′ : List ℕ) → k < p → 1 ≤ m → m ≤ k → length ds ≡ length ds′
-    → Matched (Gives k m v ds) (Gives k m v ds′)
+    → Matched (GivesValues k m v ds) (GivesValues k m v ds′)
 
 -- The table of weights has the weight of each piece in its place.
 abbrev pub WeightsAre : Type 0

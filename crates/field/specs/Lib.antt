@@ -1,4 +1,5 @@
 pub mod Poly
+pub mod Hiding
 pub mod Pieces
 pub mod Joined
 pub mod Inverse

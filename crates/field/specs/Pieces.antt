@@ -6,6 +6,7 @@ use mathlib.Core.List.{List, [], _∷_}
 use Prim.Native.Nat.{ℕ, _-_, _*_, _≤_}
 use lib.ListN.{length, take, drop}
 use Rattle.field.specs.Poly.{Below, piece}
+use Rattle.field.specs.Hiding.{Hidden, Gives}
 
 -- the values of piece j, one for each secret word of ds: for each there are q coefficients "taken in order from the lent randomness: those
 -- of word 1 first, then word 2". They are used as they are lent, none of them reduced.
@@ -18,23 +19,17 @@ pub record Random (w k : ℕ) (rs : List ℕ) : Type 0 where
   pub count : length rs ≡ w * (k - 1)
   pub below : Below rs
 
--- the lists with A and those with B are equally many: each with A has its one partner with B
-pub record Matched (A B : List ℕ → Type 0) : Type 0 where
-  pub there : List ℕ → List ℕ
-  pub back : List ℕ → List ℕ
-  pub there-in : (r : List ℕ) → A r → B (there r)
-  pub back-in : (r : List ℕ) → B r → A (back r)
-  pub back-there : (r : List ℕ) → A r → back (there r) ≡ r
-  pub there-back : (r : List ℕ) → B r → there (back r) ≡ r
+-- piece j is one of 1 to k, and not m
+pub record Other (k m j : ℕ) : Type 0 where
+  pub least : 1 ≤ j
+  pub most : j ≤ k
+  pub unlike : j ≢ m
 
 -- all the randomness of the secret ds in pairs with all that of the secret ds′, of as many words, so that each piece of 1 to k but m has
 -- the same values from both
-pub record Paired (k m : ℕ) (ds ds′ : List ℕ) : Type 0 where
-  pub pairs : Matched (Random (length ds) k) (Random (length ds′) k)
-  pub same : (rs : List ℕ) → Random (length ds) k rs → (j : ℕ) → 1 ≤ j → j ≤ k → j ≢ m
-      → values (k - 1) ds′ (pairs .there rs) j ≡ values (k - 1) ds rs j
+abbrev pub Paired : ℕ → ℕ → List ℕ → List ℕ → Type 0
+Paired k m ds ds′ = Hidden (Random (length ds) k) (Random (length ds′) k) (values (k - 1) ds) (values (k - 1) ds′) (Other k m)
 
--- rs is randomness with which the secret ds gives the values v j for each piece j of 1 to k but m
-pub record Gives (k m : ℕ) (v : ℕ → List ℕ) (ds rs : List ℕ) : Type 0 where
-  pub random : Random (length ds) k rs
-  pub gives : (j : ℕ) → 1 ≤ j → j ≤ k → j ≢ m → values (k - 1) ds rs j ≡ v j
+-- the randomness with which the secret ds gives the values v j for each piece j of 1 to k but m
+abbrev pub GivesValues : ℕ → ℕ → (ℕ → List ℕ) → List ℕ → List ℕ → Type 0
+GivesValues k m v ds = Gives (Random (length ds) k) (values (k - 1) ds) (Other k m) v
