@@ -11,7 +11,7 @@ use Rattle.field.specs.Poly.{p, value, Below, Through}
 use Rattle.field.specs.Joined.{joined}
 use Rattle.field.specs.Lagrange.{lagrangeWeight}
 use Rattle.field.proofs.Mod.{_≈_, _then_, from≡, add≈, mul≈, mul≈₂, small}
-use Rattle.field.proofs.Sums.{below-nil, added, added-value, added-length, added-below}
+use Rattle.field.proofs.Sums.{below-nil, plusTimes, plus-times-value, plus-times-length, plus-times-below}
 use Rattle.field.proofs.Unique.{value-zero, joined-value}
 use Rattle.field.proofs.Loosened.{loose, loose-none, loose-length}
 use Rattle.field.proofs.Products.{weight-one}
@@ -53,14 +53,14 @@ weighed-same v w j (y ∷ ys) h = rw (h j, weighed-same v w (suc j) ys h)
 -- the polynomial that is the pieces ys at j, j + 1, .. and 0 at the other pieces of 1 to k
 pub curve : ℕ → ℕ → List ℕ → List ℕ
 curve k j [] = []
-curve k j (y ∷ ys) = added (curve k (suc j) ys) (lagrangeWeight k j * y) (1 ∷ loose j k)
+curve k j (y ∷ ys) = plusTimes (curve k (suc j) ys) (lagrangeWeight k j * y) (1 ∷ loose j k)
 
 module _ (k : ℕ) where
   curve-value : (x j : ℕ) (ys : List ℕ) → value (curve k j ys) x ≈ weighed (λ i. lagrangeWeight k i * value (1 ∷ loose i k) x) j ys
   unfolding curve weighed value
   curve-value x j [] = from≡ refl
   curve-value x j (y ∷ ys) =
-      added-value (curve k (suc j) ys) (lagrangeWeight k j * y) (1 ∷ loose j k) x
+      plus-times-value (curve k (suc j) ys) (lagrangeWeight k j * y) (1 ∷ loose j k) x
       then add≈ (curve-value x (suc j) ys) (from≡ refl)
       then turned (lagrangeWeight k j) (value (1 ∷ loose j k) x) (weighed (λ i. lagrangeWeight k i * value (1 ∷ loose i k) x) (suc j) ys)
     where
@@ -70,14 +70,14 @@ module _ (k : ℕ) where
   curve-below : (j : ℕ) (ys : List ℕ) → Below (curve k j ys)
   unfolding curve
   curve-below j [] = below-nil
-  curve-below j (y ∷ ys) = added-below (curve k (suc j) ys) (lagrangeWeight k j * y) (1 ∷ loose j k) (curve-below (suc j) ys)
+  curve-below j (y ∷ ys) = plus-times-below (curve k (suc j) ys) (lagrangeWeight k j * y) (1 ∷ loose j k) (curve-below (suc j) ys)
 
   -- it has k coefficients, if there is a piece at all
   one-more : (j y : ℕ) (ys : List ℕ) → 1 ≤ j → j ≤ k → length (curve k (suc j) ys) ≤ k → length (curve k j (y ∷ ys)) ≡ k
   unfolding curve
   one-more j y ys a b h =
       let n = loose-length j k a b in
-      added-length (curve k (suc j) ys) (lagrangeWeight k j * y) (1 ∷ loose j k) (omega arith) ∙ n
+      plus-times-length (curve k (suc j) ys) (lagrangeWeight k j * y) (1 ∷ loose j k) (omega arith) ∙ n
 
   curve-most : (j : ℕ) (ys : List ℕ) → 1 ≤ j → j + length ys ≤ suc k → length (curve k j ys) ≤ k
   unfolding curve

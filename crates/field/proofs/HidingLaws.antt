@@ -1,6 +1,6 @@
 -- Pairings turned round; and what is hidden is not favoured by what is seen.
 -- Assumes nothing.
-use mathlib.Core.Path.{_≡_, sym, ap, _∙_}
+use mathlib.Core.Path.{sym, ap, _∙_}
 use mathlib.Core.List.{List}
 use Prim.Native.Nat.{ℕ}
 use Rattle.field.specs.Hiding.{Matched, Hidden, Gives}

@@ -14,6 +14,7 @@ use Rattle.field.proofs.Curve as curve
 use Rattle.field.proofs.Pairing as pairing
 use Rattle.field.proofs.HidingLaws as hiding
 use Rattle.field.proofs.Table as table
+use Rattle.field.proofs.AddedLaws as sums
 
 pub no-divisor : law.NoDivisor
 no-divisor m h l e = omega (arith, prime.no-divisor m h l)
@@ -58,3 +59,12 @@ hidden-gives k m v ds ds′ h l u e = hiding.none-favoured (paired-some k m ds d
 
 pub weights-are : law.WeightsAre
 weights-are = table.table-weights
+
+pub added-fits : law.AddedFits
+added-fits xs ys = (sums.added-length xs ys, sums.added-below xs ys)
+
+pub added-at : law.AddedAt
+added-at = sums.added-at
+
+pub values-added : law.ValuesAdded
+values-added = sums.values-added

@@ -12,4 +12,5 @@ pub mod Curve
 pub mod Table
 pub mod HidingLaws
 pub mod Pairing
+pub mod AddedLaws
 pub mod Laws

@@ -15,17 +15,17 @@ use Rattle.field.specs.Inverse.{inverse}
 use Rattle.field.specs.Laws.{Loose}
 use Rattle.field.proofs.Mod.{_≈_, _then_, from≡, add≈, mul≈}
 use Rattle.field.proofs.Prime.{inverse-right}
-use Rattle.field.proofs.Sums.{below-nil, added, added-value, added-length, added-below}
+use Rattle.field.proofs.Sums.{below-nil, plusTimes, plus-times-value, plus-times-length, plus-times-below}
 
 -- its coefficients after the 1
 unfoldable pub loose : ℕ → ℕ → List ℕ
 loose m zero = []
-loose m (suc n) = cond (eqb (suc n) m) (loose m n) (added (loose m n) (32748 * inverse (suc n)) (1 ∷ loose m n))
+loose m (suc n) = cond (eqb (suc n) m) (loose m n) (plusTimes (loose m n) (32748 * inverse (suc n)) (1 ∷ loose m n))
 
 -- one factor more
-pub factor : (cs : List ℕ) (e x : ℕ) → value (1 ∷ added cs e (1 ∷ cs)) x ≈ (1 + x * e) * value (1 ∷ cs) x
+pub factor : (cs : List ℕ) (e x : ℕ) → value (1 ∷ plusTimes cs e (1 ∷ cs)) x ≈ (1 + x * e) * value (1 ∷ cs) x
 unfolding value
-factor cs e x = add≈ (from≡ refl) (mul≈ x (added-value cs e (1 ∷ cs) x)) then omega arith
+factor cs e x = add≈ (from≡ refl) (mul≈ x (plus-times-value cs e (1 ∷ cs) x)) then omega arith
 
 -- 1 − j / j is 0
 gone : (j v : ℕ) → 0 < j % p → (1 + j * (32748 * inverse j)) * v ≈ 0
@@ -40,7 +40,7 @@ loose-none m (suc n) j l a b f = go (eqb (suc n) m) refl (eq-or-lt-of-le b) (λ 
     cs = loose m n
 
     go : (t : Bool) → eqb (suc n) m ≡ t → (j ≡ suc n) ⊎ (j < suc n) → (j ≤ n → value (1 ∷ cs) j ≈ 0)
-        → value (1 ∷ cond t cs (added cs (32748 * inverse (suc n)) (1 ∷ cs))) j ≈ 0
+        → value (1 ∷ cond t cs (plusTimes cs (32748 * inverse (suc n)) (1 ∷ cs))) j ≈ 0
     go true e (inl g) ih = absurd (f (g ∙ eqb-true (suc n) m e))
     go true e (inr g) ih = ih (le-of-suc-le-suc g)
     go false e (inl g) ih =
@@ -56,16 +56,16 @@ unfolding loose
 loose-below m zero = below-nil
 loose-below m (suc n) = go (eqb (suc n) m) (loose-below m n)
   where
-    go : (t : Bool) → Below (loose m n) → Below (cond t (loose m n) (added (loose m n) (32748 * inverse (suc n)) (1 ∷ loose m n)))
+    go : (t : Bool) → Below (loose m n) → Below (cond t (loose m n) (plusTimes (loose m n) (32748 * inverse (suc n)) (1 ∷ loose m n)))
     go true b = b
-    go false b = added-below (loose m n) (32748 * inverse (suc n)) (1 ∷ loose m n) b
+    go false b = plus-times-below (loose m n) (32748 * inverse (suc n)) (1 ∷ loose m n) b
 
 -- as many coefficients as factors: piece m has none
 longer : (m n : ℕ) → suc n ≢ m → length (loose m (suc n)) ≡ suc (length (loose m n))
 unfolding loose
 longer m n f =
     let e : eqb (suc n) m ≡ false = ne-eqb (suc n) m f in
-    rw e (added-length (loose m n) (32748 * inverse (suc n)) (1 ∷ loose m n) (omega arith))
+    rw e (plus-times-length (loose m n) (32748 * inverse (suc n)) (1 ∷ loose m n) (omega arith))
 
 loose-full : (m n : ℕ) → n < m → length (loose m n) ≡ n
 unfolding loose

@@ -1,9 +1,8 @@
 -- Whoever lacks piece m learns nothing of the secret: a multiple of the loose polynomial of m, added to a deal of one secret, gives a deal
 -- of the other in which every other piece is the same. Assumes nothing.
 use mathlib.Core.Path.{_≡_, refl, sym, ap, ap₂, _∙_}
-use mathlib.Core.Logic.{_≢_}
 use mathlib.Core.List.{List, [], _∷_, _++_}
-use Prim.Native.Nat.{ℕ, suc, _+_, _-_, _*_, _≤_}
+use Prim.Native.Nat.{ℕ, suc, _+_, _-_, _*_}
 use native.Mathlib.Omega.{arith}
 use native.Mathlib.Nat.{suc-inj, suc-ne-zero, le-of-eq}
 use lib.ListN.{length, take, drop, length-append, length-drop, take-append-drop}
@@ -13,16 +12,16 @@ use Rattle.field.specs.Pieces.{values, Random, Other, Paired}
 use Rattle.field.specs.Joined.{minus}
 use Rattle.field.specs.Laws.{Loose}
 use Rattle.field.proofs.Mod.{_≈_, _then_, from≡, add≈, mul≈, mod≈, small, minus≈}
-use Rattle.field.proofs.Sums.{below-rest, below-take, below-drop, below-append, added, added-value, added-length, added-below}
+use Rattle.field.proofs.Sums.{below-rest, below-take, below-drop, below-append, plusTimes, plus-times-value, plus-times-length, plus-times-below}
 
 -- ---- one word: the coefficients rs, with which d′ gives what d gave, where 1, cs.. is 0
 shift : List ℕ → ℕ → ℕ → List ℕ → List ℕ
-shift cs d d′ rs = added rs (minus d′ d) cs
+shift cs d d′ rs = plusTimes rs (minus d′ d) cs
 
 shift-piece : (cs : List ℕ) (d d′ : ℕ) (rs : List ℕ) (j : ℕ) → value (1 ∷ cs) j ≈ 0 → piece d′ (shift cs d d′ rs) j ≡ piece d rs j
 unfolding shift value
 shift-piece cs d d′ rs j h =
-    (add≈ (from≡ refl) (mul≈ j (added-value rs (minus d′ d) cs j))
+    (add≈ (from≡ refl) (mul≈ j (plus-times-value rs (minus d′ d) cs j))
     then moved (minus d′ d) (value rs j) (value cs j) (minus≈ d′ d) (mul≈ (minus d′ d) h)) .same
   where
     moved : (e r c : ℕ) → e ≈ d′ + 32748 * d → e * (1 + j * c) ≈ e * 0 → d′ + j * (r + e * c) ≈ d + j * r
@@ -34,8 +33,8 @@ shift-piece cs d d′ rs j h =
         second : d + j * r + e * (1 + j * c) ≈ d + j * r
         second = omega (arith, k)
 
-undo : (e e′ : ℕ) → e + e′ ≈ 0 → (cs rs : List ℕ) → length rs ≡ length cs → Below rs → added (added rs e cs) e′ cs ≡ rs
-unfolding added
+undo : (e e′ : ℕ) → e + e′ ≈ 0 → (cs rs : List ℕ) → length rs ≡ length cs → Below rs → plusTimes (plusTimes rs e cs) e′ cs ≡ rs
+unfolding plusTimes
 undo e e′ h [] [] l b = refl
 undo e e′ h [] (r ∷ rs) l b = absurd (suc-ne-zero (length rs) l)
 undo e e′ h (c ∷ cs) [] l b = absurd (suc-ne-zero (length cs) (sym l))
@@ -64,7 +63,7 @@ module _ (cs : List ℕ) where
 
   shift-length : (w d d′ : ℕ) (rs : List ℕ) → length rs ≡ suc w * length cs → length (shift cs d d′ (take (length cs) rs)) ≡ length cs
   unfolding shift
-  shift-length w d d′ rs e = added-length (take (length cs) rs) (minus d′ d) cs (le-of-eq (first-length w rs e))
+  shift-length w d d′ rs e = plus-times-length (take (length cs) rs) (minus d′ d) cs (le-of-eq (first-length w rs e))
 
   shifts-below : (ds ds′ rs : List ℕ) → Below rs → Below (shifts cs ds ds′ rs)
   unfolding shifts shift
@@ -72,7 +71,7 @@ module _ (cs : List ℕ) where
   shifts-below (d ∷ ds) [] rs b = b
   shifts-below (d ∷ ds) (d′ ∷ ds′) rs b =
       below-append (shift cs d d′ (take (length cs) rs)) (shifts cs ds ds′ (drop (length cs) rs))
-      (added-below (take (length cs) rs) (minus d′ d) cs (below-take (length cs) rs b))
+      (plus-times-below (take (length cs) rs) (minus d′ d) cs (below-take (length cs) rs b))
       (shifts-below ds ds′ (drop (length cs) rs) (below-drop (length cs) rs b))
 
   shifts-length : (ds ds′ rs : List ℕ) → length rs ≡ length ds * length cs → length (shifts cs ds ds′ rs) ≡ length rs

@@ -16,7 +16,7 @@ use Rattle.field.specs.Inverse.{inverse}
 use Rattle.field.specs.Lagrange.{product, lagrangeWeight}
 use Rattle.field.proofs.Mod.{_≈_, _then_, flip, from≡, add≈, mul≈, mul≈₂, mod≈, mod-below, same-small, minus≈}
 use Rattle.field.proofs.Prime.{inverse-right, euclid}
-use Rattle.field.proofs.Sums.{added}
+use Rattle.field.proofs.Sums.{plusTimes}
 use Rattle.field.proofs.Loosened.{loose, factor}
 
 -- ---- one turn of the loop: piece n + 1 is j, or it is another and f is n + 1 − x mod p
@@ -73,7 +73,7 @@ loose-product m x (suc n) l = go (eqb (suc n) m) (loose-product m x n (omega ari
     v = value (1 ∷ loose m n) x
 
     go : (t : Bool) → product m 0 n * v ≈ product m x n
-        → cond t (product m 0 n) (minus (suc n) 0 * product m 0 n % p) * value (1 ∷ cond t (loose m n) (added (loose m n) (32748 * inverse (suc n)) (1 ∷ loose m n))) x
+        → cond t (product m 0 n) (minus (suc n) 0 * product m 0 n % p) * value (1 ∷ cond t (loose m n) (plusTimes (loose m n) (32748 * inverse (suc n)) (1 ∷ loose m n))) x
         ≈ cond t (product m x n) (minus (suc n) x * product m x n % p)
     go true ih = ih
     go false ih =

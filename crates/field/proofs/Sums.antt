@@ -48,26 +48,26 @@ below-append [] ds a b = b
 below-append (c ∷ cs) ds a b = below-cons (a .each 0) (below-append cs ds (below-rest a) b)
 
 -- ---- cs + e · ds, mod p; what only one of them has stays, or is multiplied
-unfoldable pub added : List ℕ → ℕ → List ℕ → List ℕ
-added cs e [] = cs
-added [] e (d ∷ ds) = e * d % p ∷ added [] e ds
-added (c ∷ cs) e (d ∷ ds) = (c + e * d) % p ∷ added cs e ds
+unfoldable pub plusTimes : List ℕ → ℕ → List ℕ → List ℕ
+plusTimes cs e [] = cs
+plusTimes [] e (d ∷ ds) = e * d % p ∷ plusTimes [] e ds
+plusTimes (c ∷ cs) e (d ∷ ds) = (c + e * d) % p ∷ plusTimes cs e ds
 
-pub added-value : (cs : List ℕ) (e : ℕ) (ds : List ℕ) (x : ℕ) → value (added cs e ds) x ≈ value cs x + e * value ds x
-unfolding added value
-added-value cs e [] x = omega arith
-added-value [] e (d ∷ ds) x = add≈ (mod≈ (e * d)) (mul≈ x (added-value [] e ds x)) then omega arith
-added-value (c ∷ cs) e (d ∷ ds) x = add≈ (mod≈ (c + e * d)) (mul≈ x (added-value cs e ds x)) then omega arith
+pub plus-times-value : (cs : List ℕ) (e : ℕ) (ds : List ℕ) (x : ℕ) → value (plusTimes cs e ds) x ≈ value cs x + e * value ds x
+unfolding plusTimes value
+plus-times-value cs e [] x = omega arith
+plus-times-value [] e (d ∷ ds) x = add≈ (mod≈ (e * d)) (mul≈ x (plus-times-value [] e ds x)) then omega arith
+plus-times-value (c ∷ cs) e (d ∷ ds) x = add≈ (mod≈ (c + e * d)) (mul≈ x (plus-times-value cs e ds x)) then omega arith
 
-pub added-length : (cs : List ℕ) (e : ℕ) (ds : List ℕ) → length cs ≤ length ds → length (added cs e ds) ≡ length ds
-unfolding added
-added-length [] e [] l = refl
-added-length (c ∷ cs) e [] l = absurd (not-suc-le-zero l)
-added-length [] e (d ∷ ds) l = ap suc (added-length [] e ds (omega arith))
-added-length (c ∷ cs) e (d ∷ ds) l = ap suc (added-length cs e ds (le-of-suc-le-suc l))
+pub plus-times-length : (cs : List ℕ) (e : ℕ) (ds : List ℕ) → length cs ≤ length ds → length (plusTimes cs e ds) ≡ length ds
+unfolding plusTimes
+plus-times-length [] e [] l = refl
+plus-times-length (c ∷ cs) e [] l = absurd (not-suc-le-zero l)
+plus-times-length [] e (d ∷ ds) l = ap suc (plus-times-length [] e ds (omega arith))
+plus-times-length (c ∷ cs) e (d ∷ ds) l = ap suc (plus-times-length cs e ds (le-of-suc-le-suc l))
 
-pub added-below : (cs : List ℕ) (e : ℕ) (ds : List ℕ) → Below cs → Below (added cs e ds)
-unfolding added
-added-below cs e [] b = b
-added-below [] e (d ∷ ds) b = below-cons (mod-below (e * d)) (added-below [] e ds b)
-added-below (c ∷ cs) e (d ∷ ds) b = below-cons (mod-below (c + e * d)) (added-below cs e ds (below-rest b))
+pub plus-times-below : (cs : List ℕ) (e : ℕ) (ds : List ℕ) → Below cs → Below (plusTimes cs e ds)
+unfolding plusTimes
+plus-times-below cs e [] b = b
+plus-times-below [] e (d ∷ ds) b = below-cons (mod-below (e * d)) (plus-times-below [] e ds b)
+plus-times-below (c ∷ cs) e (d ∷ ds) b = below-cons (mod-below (c + e * d)) (plus-times-below cs e ds (below-rest b))

@@ -3,7 +3,7 @@
 use mathlib.Core.Path.{_≡_}
 use mathlib.Core.Logic.{_≢_}
 use mathlib.Core.List.{List, _∷_}
-use Prim.Native.Nat.{ℕ, _-_, _*_, _%_, _≤_, _<_}
+use Prim.Native.Nat.{ℕ, _+_, _-_, _*_, _%_, _≤_, _<_}
 use lib.ListN.{length, getD, take, drop, replicate}
 use Rattle.lists.specs.Run.{run}
 use Rattle.field.specs.Poly.{p, Below, value, piece, Through, One}
@@ -12,6 +12,7 @@ use Rattle.field.specs.Pieces.{values, Random, Paired, GivesValues}
 use Rattle.field.specs.Joined.{joined}
 use Rattle.field.specs.Inverse.{inverse}
 use Rattle.field.specs.Lagrange.{Weights, weightsOf}
+use Rattle.field.specs.Added.{added}
 
 -- 32749 has no divisor but 1 and itself.
 abbrev pub NoDivisor : Type 0
@@ -78,3 +79,16 @@ HiddenGives = (k m : ℕ) (v : ℕ → List ℕ) (ds ds′ : List ℕ) → k < p
 -- The table of weights has the weight of each piece in its place.
 abbrev pub WeightsAre : Type 0
 WeightsAre = (k : ℕ) → Weights k (weightsOf k)
+
+-- A sum of two lists is as long as the first, if the second has as many numbers or more; and each of its numbers is one of 0 to 32748.
+abbrev pub AddedFits : Type 0
+AddedFits = (xs ys : List ℕ) → (length xs ≤ length ys → length (added xs ys) ≡ length xs) × Below (added xs ys)
+
+-- Of two lists of one length, it has at each place the sum mod p of the numbers there (past their end all three read 0).
+abbrev pub AddedAt : Type 0
+AddedAt = (xs ys : List ℕ) → length xs ≡ length ys → (i : ℕ) → getD (added xs ys) i 0 ≡ (getD xs i 0 + getD ys i 0) % p
+
+-- Adding deals: the values of a piece of two deals, added, are those of the deal of the added secrets with the added randomness.
+abbrev pub ValuesAdded : Type 0
+ValuesAdded = (q : ℕ) (ds ds′ rs rs′ : List ℕ) (j : ℕ) → length ds ≡ length ds′ → length rs ≡ length rs′
+    → values q (added ds ds′) (added rs rs′) j ≡ added (values q ds rs j) (values q ds′ rs′ j)

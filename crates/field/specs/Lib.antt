@@ -4,4 +4,5 @@ pub mod Pieces
 pub mod Joined
 pub mod Inverse
 pub mod Lagrange
+pub mod Added
 pub mod Laws
