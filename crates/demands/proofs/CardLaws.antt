@@ -1,5 +1,5 @@
--- Block a of a card, where it stands on the card, is that of the a-th piece that the holder has.
--- Assumes nothing.
+-- Block a of a card, where it stands on the card, is that of the a-th piece that the holder has; and every block of whole cards is of 512
+-- bytes. Assumes nothing.
 use Prim.Native.Nat.{ℕ, zero, suc, _-_, _*_, _≤_, _<_}
 use mathlib.Core.Path.{_≡_, refl, sym, ap, _∙_}
 use mathlib.Core.List.{List, [], _∷_, _++_, map, Memᴰ·of-map}
@@ -10,6 +10,7 @@ use Rattle.answer.specs.Places.{at}
 use Rattle.answer.proofs.ThoseLaws.{at-in}
 use Rattle.dealing.specs.Deal.{Deal, held, blockOf, cardBlocks, card}
 use Rattle.dealing.proofs.MadeLaws.{InRange, block-length}
+use Rattle.demands.specs.Group.{Member, CardsOf}
 use Rattle.demands.specs.Demand2.{CardBlock}
 use Rattle.demands.proofs.BlockLaws.{card-block}
 use Rattle.demands.proofs.FlatLaws.{Long, flat-drop}
@@ -21,7 +22,7 @@ map-at f (x ∷ l) zero h = refl
 map-at f (x ∷ l) (suc a) h = map-at f l a (le-of-suc-le-suc h)
 
 module _ (d : Deal) (f : InRange d) (holder : ℕ) (least : 1 ≤ holder) (most : holder ≤ d .policy .people) where
-  card-long : Long (cardBlocks d holder)
+  pub card-long : Long (cardBlocks d holder)
   unfolding cardBlocks
   card-long = record {
     long = λ b m. let r = Memᴰ·of-map (blockOf d holder) (held d holder) m in ap length (sym (r .2)) ∙ block-length d f holder least most (r .0);
@@ -35,3 +36,6 @@ module _ (d : Deal) (f : InRange d) (holder : ℕ) (least : 1 ≤ holder) (most 
       let q : drop (512 * (a - 1)) (card d holder) ≡ blockOf d holder j ++ r .0
       = r .1 ∙ ap (λ (b : List ℕ). b ++ r .0) (map-at (blockOf d holder) (held d holder) (a - 1) (omega arith)) in
       rw q (card-block d f holder j least most (at-in 0 (held d holder) (a - 1) (omega arith)) (r .0))
+
+pub cards-long : (d : Deal) → InRange d → (g : ℕ) (bs : List (List ℕ)) → CardsOf (cardBlocks d) (Member d g) bs → Long bs
+cards-long d f g bs c = record { long = λ b m. let r = c .theirs b m in card-long d f (r .0) (r .1 .least) (r .1 .most) .long b (r .2) }

@@ -1,12 +1,12 @@
 -- A pile made of the whole cards of a group, read block by block: it is sound, and its pieces are those that the group holds.
 -- Assumes nothing.
-use Prim.Native.Nat.{ℕ, suc, _+_, _-_, _*_, _%_, _≤_}
+use Prim.Native.Nat.{ℕ, suc, _+_, _-_, _%_, _≤_}
 use mathlib.Core.Path.{_≡_, refl, sym, ap, subst, _∙_}
 use mathlib.Core.Bool.{Bool, true, false}
 use mathlib.Core.List.{List, [], _∷_, _++_, List·Memᴰ, Memᴰ·map, Memᴰ·of-map}
 use native.Mathlib.Nat.{le-refl}
 use native.Mathlib.Omega.{arith}
-use lib.ListN.{length, getD, drop}
+use lib.ListN.{length, getD}
 use borrow.Author.Tests.{ne-eqb}
 use Rattle.answer.specs.Places.{found}
 use Rattle.answer.proofs.FirstLaws.{first-all, found-some, found-none}
@@ -16,18 +16,19 @@ use Rattle.planning.specs.Groups.{_∈_}
 use Rattle.answer.proofs.Truth.{never}
 use Rattle.block.specs.Layout.{dealOf}
 use Rattle.block.specs.Open.{TrueBlock}
-use Rattle.dealing.specs.Deal.{Deal, pieceCount, held, values, blockOf, cardBlocks}
+use Rattle.dealing.specs.Deal.{Deal, pieceCount, held, values, blockOf, cardBlocks, flat}
 use Rattle.dealing.proofs.HeldLaws.{held-in}
-use Rattle.dealing.proofs.MadeLaws.{InRange, block-length}
+use Rattle.dealing.proofs.MadeLaws.{InRange}
 use Rattle.joining.specs.Pile as Pile
 use Rattle.joining.specs.Pile.{blocks, restFrom, width, pieceAt, hasPiece, placeOf, valueOf, present}
 use Rattle.joining.specs.Laws.{In, Sound}
 use Rattle.joining.proofs.SoundLaws.{place-held}
-use Rattle.demands.specs.Group.{Member, WholeCards, gathers, gathered}
+use Rattle.demands.specs.Group.{Member, CardsOf, WholeCards, gathers, gathered}
 use Rattle.demands.specs.Demand2.{CardBlock}
 use Rattle.demands.proofs.GroupLaws.{gathers-by, gathers-who}
 use Rattle.demands.proofs.BlockLaws.{block-true, card-block}
-use Rattle.demands.proofs.FlatLaws.{Long, flat-length, flat-drop}
+use Rattle.demands.proofs.FlatLaws.{flat-length, flat-drop}
+use Rattle.demands.proofs.CardLaws.{cards-long}
 
 -- b begins with the block of a piece that a member of the group holds
 pub record Theirs (d : Deal) (g : ℕ) (b : List ℕ) : Type 0 where
@@ -46,49 +47,45 @@ pub record Reads (d : Deal) (g : ℕ) (pile : List ℕ) : Type 0 where
   pub all : (i j : ℕ) → Member d g i → j ∈ held d i → (a : ℕ) × In pile a × (pieceAt pile a ≡ j)
 
 -- ---- from the bytes to the blocks
-module _ (d : Deal) (f : InRange d) (g : ℕ) (pile : List ℕ) (w : WholeCards d g pile) where
-  -- a block of the pile is that of a member's piece
-  whose : (b : List ℕ) → List·Memᴰ b (w .blocks) → (i : ℕ) × (j : ℕ) × Member d g i × (j ∈ held d i) × (b ≡ blockOf d i j)
+module _ (d : Deal) (f : InRange d) (g : ℕ) (bs : List (List ℕ)) (c : CardsOf (cardBlocks d) (Member d g) bs) where
+  -- a block of the cards is that of a member's piece
+  whose : (b : List ℕ) → List·Memᴰ b bs → (i : ℕ) × (j : ℕ) × Member d g i × (j ∈ held d i) × (b ≡ blockOf d i j)
   unfolding cardBlocks
   whose b m =
-      let r = w .theirs b m in
+      let r = c .theirs b m in
       let s = Memᴰ·of-map (blockOf d (r .0)) (held d (r .0)) (r .2) in
       (r .0, s .0, r .1, s .1, sym (s .2))
 
-  all-long : Long (w .blocks)
-  all-long = record {
-    long = λ b m. let r = whose b m in ap length (r .4) ∙ block-length d f (r .0) (r .2 .least) (r .2 .most) (r .1);
-  }
-
-  size : length pile ≡ 512 * length (w .blocks)
-  size = ap length (w .bytes) ∙ flat-length (w .blocks) all-long
-
-  -- block a of the pile, where it is that of piece j
-  at-block : (a i j : ℕ) → 1 ≤ a → a ≤ length (w .blocks) → Member d g i → j ∈ held d i → getD (w .blocks) (a - 1) [] ≡ blockOf d i j
-      → CardBlock d i j (restFrom pile a) × TrueBlock (restFrom pile a)
+  -- block a of them laid one after another, where it is that of piece j
+  at-block : (a i j : ℕ) → 1 ≤ a → a ≤ length bs → Member d g i → j ∈ held d i → getD bs (a - 1) [] ≡ blockOf d i j
+      → CardBlock d i j (restFrom (flat bs) a) × TrueBlock (restFrom (flat bs) a)
   unfolding restFrom
   at-block a i j l u m has e =
-      let r = flat-drop (w .blocks) all-long (a - 1) (omega arith) in
-      let q : drop (512 * (a - 1)) pile ≡ blockOf d i j ++ r .0
-      = ap (drop (512 * (a - 1))) (w .bytes) ∙ r .1 ∙ ap (λ (b : List ℕ). b ++ r .0) e in
+      let r = flat-drop bs (cards-long d f g bs c) (a - 1) (omega arith) in
+      let q = r .1 ∙ ap (λ (b : List ℕ). b ++ r .0) e in
       rw q (card-block d f i j (m .least) (m .most) has (r .0), block-true d f i j (m .least) (m .most) has (r .0))
 
-  pub reads : Reads d g pile
+  reads-flat : length bs ≤ 560 → Reads d g (flat bs)
   unfolding blocks cardBlocks
-  reads = record {
-    whole = omega (arith, size);
-    few = omega (arith, size, w .few);
-    theirs = λ a h.
-        let u : a ≤ length (w .blocks) = omega (arith, size, h .1) in
-        let r = whose (getD (w .blocks) (a - 1) []) (at-in [] (w .blocks) (a - 1) (omega (arith, h .0))) in
-        let s = at-block a (r .0) (r .1) (h .0) u (r .2) (r .3) (r .4) in
-        record { who = r .0; which = r .1; in-group = r .2; has = r .3; says = s .0; is-true = s .1 };
-    all = λ i j m has.
-        let b = in-at [] (w .blocks) (blockOf d i j) (w .whole i m (blockOf d i j) (Memᴰ·map (blockOf d i) has)) in
-        let back : suc (b .0) - 1 ≡ b .0 = omega arith in
-        let s = at-block (suc (b .0)) i j (omega arith) (b .1) m has (ap (λ (x : ℕ). getD (w .blocks) x []) back ∙ b .2) in
-        (suc (b .0), (omega arith, omega (arith, size, b .1)), s .0 .piece-is);
-  }
+  reads-flat few =
+      let size = flat-length bs (cards-long d f g bs c) in
+      record {
+        whole = omega arith;
+        few = omega arith;
+        theirs = λ a h.
+            let u : a ≤ length bs = omega (arith, h .1) in
+            let r = whose (getD bs (a - 1) []) (at-in [] bs (a - 1) (omega (arith, h .0))) in
+            let s = at-block a (r .0) (r .1) (h .0) u (r .2) (r .3) (r .4) in
+            record { who = r .0; which = r .1; in-group = r .2; has = r .3; says = s .0; is-true = s .1 };
+        all = λ i j m has.
+            let b = in-at [] bs (blockOf d i j) (c .all i m (blockOf d i j) (Memᴰ·map (blockOf d i) has)) in
+            let back : suc (b .0) - 1 ≡ b .0 = omega arith in
+            let s = at-block (suc (b .0)) i j (omega arith) (b .1) m has (ap (λ (x : ℕ). getD bs x []) back ∙ b .2) in
+            (suc (b .0), (omega arith, omega (arith, b .1)), s .0 .piece-is);
+      }
+
+pub reads : (d : Deal) → InRange d → (g : ℕ) (pile : List ℕ) → WholeCards d g pile → Reads d g pile
+reads d f g pile w = rw (w .bytes) (reads-flat d f g (w .blocks) (w .whole) (w .few))
 
 -- ---- from the blocks to what joining asks
 module _ {d : Deal} {g : ℕ} {pile : List ℕ} (r : Reads d g pile) where

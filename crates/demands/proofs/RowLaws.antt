@@ -2,7 +2,7 @@
 -- Assumes nothing.
 use Prim.Native.Nat.{ℕ, _*_, _≤_, zero-le}
 use mathlib.Core.Path.{_≡_, refl, sym, ap, subst, _∙_}
-use mathlib.Core.List.{List, [], _∷_, _++_, List·Memᴰ, List·Memᴰ·head, List·Memᴰ·tail, List·Memᴰ·not-nil, List·Memᴰ·cases-cons, List·Memᴰ·append-cases, Memᴰ·append-left, Memᴰ·append-right, Memᴰ·of-map}
+use mathlib.Core.List.{List, [], _∷_, _++_, List·Memᴰ, List·Memᴰ·head, List·Memᴰ·tail, List·Memᴰ·not-nil, List·Memᴰ·cases-cons, List·Memᴰ·append-cases, Memᴰ·append-left, Memᴰ·append-right}
 use mathlib.Core.Logic.{⊎-elim}
 use native.Mathlib.Omega.{arith}
 use lib.ListN.{length, length-append}
@@ -10,61 +10,63 @@ use Rattle.answer.proofs.ThoseLaws.{those-few}
 use Rattle.planning.specs.Sets.{member}
 use Rattle.planning.specs.Groups as planning
 use Rattle.planning.specs.Groups.{_∈_, holds}
-use Rattle.dealing.specs.Deal.{Deal, pieceCount, held, blockOf, flat, cardBlocks, card}
+use Rattle.dealing.specs.Deal.{Deal, pieceCount, held, flat, cardBlocks, card}
 use Rattle.dealing.specs.Dealt.{Made, blockCount}
-use Rattle.dealing.proofs.MadeLaws.{InRange, made-in-range, block-length, card-length}
+use Rattle.dealing.proofs.MadeLaws.{InRange, made-in-range, card-length}
 use Rattle.dealing.proofs.CardLaws.{flat-append}
-use Rattle.demands.specs.Group.{Member, WholeCards, cards, members}
+use Rattle.demands.specs.Group.{Member, CardsOf, WholeCards, cards, members}
 use Rattle.demands.proofs.GroupLaws.{in-members, members-in}
-use Rattle.demands.proofs.FlatLaws.{Long, flat-length}
+use Rattle.demands.proofs.FlatLaws.{flat-length}
+use Rattle.demands.proofs.CardLaws.{cards-long}
 
-module _ (d : Deal) where
+-- ---- cards in a row, whatever the blocks of each holder's card are
+module _ (blocksOf : ℕ → List (List ℕ)) where
   -- the blocks of these holders' cards
   rowBlocks : List ℕ → List (List ℕ)
   rowBlocks [] = []
-  rowBlocks (h ∷ hs) = cardBlocks d h ++ rowBlocks hs
+  rowBlocks (h ∷ hs) = blocksOf h ++ rowBlocks hs
 
-  row-bytes : (hs : List ℕ) → cards d hs ≡ flat (rowBlocks hs)
-  unfolding cards flat rowBlocks card
-  row-bytes [] = refl
-  row-bytes (h ∷ hs) = ap (λ (l : List ℕ). flat (cardBlocks d h) ++ l) (row-bytes hs) ∙ sym (flat-append (cardBlocks d h) (rowBlocks hs))
-
-  row-from : (hs b : List ℕ) → List·Memᴰ b (rowBlocks hs) → (i : ℕ) × (i ∈ hs) × List·Memᴰ b (cardBlocks d i)
+  row-from : (hs b : List ℕ) → List·Memᴰ b (rowBlocks hs) → (i : ℕ) × (i ∈ hs) × List·Memᴰ b (blocksOf i)
   unfolding rowBlocks
   row-from [] b m = absurd (List·Memᴰ·not-nil m)
   row-from (h ∷ hs) b m =
-      ⊎-elim (λ (k : List·Memᴰ b (cardBlocks d h)). (h, List·Memᴰ·head refl, k))
+      ⊎-elim (λ (k : List·Memᴰ b (blocksOf h)). (h, List·Memᴰ·head refl, k))
       (λ (k : List·Memᴰ b (rowBlocks hs)). let r = row-from hs b k in (r .0, List·Memᴰ·tail (r .1), r .2))
-      (List·Memᴰ·append-cases (cardBlocks d h) m)
+      (List·Memᴰ·append-cases (blocksOf h) m)
 
-  row-has : (hs : List ℕ) (i : ℕ) → i ∈ hs → (b : List ℕ) → List·Memᴰ b (cardBlocks d i) → List·Memᴰ b (rowBlocks hs)
+  row-has : (hs : List ℕ) (i : ℕ) → i ∈ hs → (b : List ℕ) → List·Memᴰ b (blocksOf i) → List·Memᴰ b (rowBlocks hs)
   unfolding rowBlocks
   row-has [] i m b k = absurd (List·Memᴰ·not-nil m)
   row-has (h ∷ hs) i m b k =
-      ⊎-elim (λ (e : i ≡ h). Memᴰ·append-left (rowBlocks hs) (subst (λ (x : ℕ). List·Memᴰ b (cardBlocks d x)) e k))
-      (λ (n : i ∈ hs). Memᴰ·append-right (cardBlocks d h) (row-has hs i n b k))
+      ⊎-elim (λ (e : i ≡ h). Memᴰ·append-left (rowBlocks hs) (subst (λ (x : ℕ). List·Memᴰ b (blocksOf x)) e k))
+      (λ (n : i ∈ hs). Memᴰ·append-right (blocksOf h) (row-has hs i n b k))
       (List·Memᴰ·cases-cons m)
 
-  module _ (f : InRange d) (g : ℕ) (hs : List ℕ) (theirs : (i : ℕ) → i ∈ hs → Member d g i) where
-    row-long : Long (rowBlocks hs)
-    unfolding cardBlocks
-    row-long = record {
-      long = λ b m.
-          let r = row-from hs b m in
-          let k = Memᴰ·of-map (blockOf d (r .0)) (held d (r .0)) (r .2) in
-          let who = theirs (r .0) (r .1) in
-          ap length (sym (k .2)) ∙ block-length d f (r .0) (who .least) (who .most) (k .0);
-    }
+  row-whole : (member : ℕ → Type 0) (hs : List ℕ) → ((i : ℕ) → i ∈ hs → member i) → ((i : ℕ) → member i → i ∈ hs)
+      → CardsOf blocksOf member (rowBlocks hs)
+  row-whole member hs theirs all = record {
+    theirs = λ b m. let r = row-from hs b m in (r .0, theirs (r .0) (r .1), r .2);
+    all = λ i m b k. row-has hs i (all i m) b k;
+  }
 
-    pub row : ((i : ℕ) → Member d g i → i ∈ hs) → length (cards d hs) ≤ 512 * 560 → WholeCards d g (cards d hs)
-    row whole few =
-        record {
-          blocks = rowBlocks hs;
-          bytes = row-bytes hs;
-          few = omega (arith, ap length (row-bytes hs), flat-length (rowBlocks hs) row-long);
-          theirs = λ b m. let r = row-from hs b m in (r .0, theirs (r .0) (r .1), r .2);
-          whole = λ i m b k. row-has hs i (whole i m) b k;
-        }
+module _ (d : Deal) where
+  row-bytes : (hs : List ℕ) → cards d hs ≡ flat (rowBlocks (cardBlocks d) hs)
+  unfolding cards flat rowBlocks card
+  row-bytes [] = refl
+  row-bytes (h ∷ hs) =
+      ap (λ (l : List ℕ). flat (cardBlocks d h) ++ l) (row-bytes hs) ∙ sym (flat-append (cardBlocks d h) (rowBlocks (cardBlocks d) hs))
+
+  pub row : InRange d → (g : ℕ) (hs : List ℕ) → ((i : ℕ) → i ∈ hs → Member d g i) → ((i : ℕ) → Member d g i → i ∈ hs)
+      → length (cards d hs) ≤ 512 * 560 → WholeCards d g (cards d hs)
+  row f g hs theirs all few =
+      let bs = rowBlocks (cardBlocks d) hs in
+      let whole = row-whole (cardBlocks d) (Member d g) hs theirs all in
+      record {
+        blocks = bs;
+        whole = whole;
+        bytes = row-bytes hs;
+        few = omega (arith, ap length (row-bytes hs), flat-length bs (cards-long d f g bs whole));
+      }
 
   -- ---- a card has at most k blocks, and k is at most 70
   module _ (f : InRange d) where

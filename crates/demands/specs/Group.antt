@@ -26,14 +26,18 @@ pub record Member (d : Deal) (g i : ℕ) : Type 0 where
   pub most : i ≤ d .policy .people
   pub among : member i g ≡ true
 
--- The pile is made of the whole cards of the group: blocks one after another, at most 560, each a block of some member's card, and each
--- block of each member's card among them; "in any order, repeats allowed". (The blocks, and not only the cards, may be in any order.)
+-- These blocks are the whole cards of some members, whatever the blocks of each holder's card are: each is a block of some member's card,
+-- and each block of each member's card is one of them. They may stand in any order, and repeat. (The blocks, and not only the cards.)
+pub record CardsOf (blocksOf : ℕ → List (List ℕ)) (member : ℕ → Type 0) (blocks : List (List ℕ)) : Type 0 where
+  pub theirs : (b : List ℕ) → List·Memᴰ b blocks → (i : ℕ) × member i × List·Memᴰ b (blocksOf i)
+  pub all : (i : ℕ) → member i → (b : List ℕ) → List·Memᴰ b (blocksOf i) → List·Memᴰ b blocks
+
+-- The pile is made of the whole cards of the group: such blocks of the deal, one after another, at most 560.
 pub record WholeCards (d : Deal) (g : ℕ) (pile : List ℕ) : Type 0 where
   pub blocks : List (List ℕ)
+  pub whole : CardsOf (cardBlocks d) (Member d g) blocks
   pub bytes : pile ≡ flat blocks
   pub few : length blocks ≤ 560
-  pub theirs : (b : List ℕ) → List·Memᴰ b blocks → (i : ℕ) × Member d g i × List·Memᴰ b (cardBlocks d i)
-  pub whole : (i : ℕ) → Member d g i → (b : List ℕ) → List·Memᴰ b (cardBlocks d i) → List·Memᴰ b blocks
 
 -- the cards of these holders, one after another
 unfoldable pub cards : Deal → List ℕ → List ℕ
