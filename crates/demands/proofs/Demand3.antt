@@ -1,18 +1,19 @@
 -- Demand 3, proved: each statement by its name in specs/Demand3.antt. Assumes nothing.
-use mathlib.Core.Path.{_≡_, sym, ap, _∙_}
+use mathlib.Core.Path.{_≡_, ap, _∙_}
 use mathlib.Core.List.{List, _++_}
 use Prim.Native.Nat.{ℕ}
 use lib.ListN.{length, drop}
 use Rattle.answer.specs.Outcome.{done}
-use Rattle.dealing.specs.Deal.{again, pieceCount, card}
+use Rattle.dealing.specs.Deal.{pieceCount}
 use Rattle.dealing.proofs.MadeLaws.{made-in-range}
+use Rattle.field.proofs.HidingLaws.{none-favoured}
 use Rattle.joining.specs.Joined.{joining}
 use Rattle.joining.proofs.Laws.{joins-then, result-writes, refusal-keeps}
 use Rattle.demands.specs.Group.{gathered}
 use Rattle.demands.specs.Demand3 as demand
 use Rattle.demands.proofs.ReadLaws.{reads}
 use Rattle.demands.proofs.AnswerLaws as answer
-use Rattle.demands.proofs.HideLaws.{hidden}
+use Rattle.demands.proofs.HideLaws as hide
 use Rattle.demands.proofs.RowLaws as rows
 
 pub opens : demand.Opens
@@ -31,7 +32,10 @@ short d made g group n pile w out =
     (e, refusal-keeps pile out 20 (q .0) (q .1) (e ∙ q .2))
 
 pub hides : demand.Hides
-hides = hidden
+hides = hide.hidden
+
+pub deals-alike : demand.DealsAlike
+deals-alike = hide.deals-alike
 
 pub other-randomness : demand.OtherRandomness
 other-randomness d made g group n other e =
@@ -40,24 +44,7 @@ other-randomness d made g group n other e =
     (h .pairs .there (d .random), h .pairs .there-in (d .random) r, λ i m. h .same (d .random) r i m)
 
 pub favours-none : demand.FavoursNone
-favours-none d made g group n other e c =
-    let h = hides d made g group n other e in
-    record {
-      there = h .pairs .there;
-      back = h .pairs .back;
-      there-in = λ r a. record { lent = h .pairs .there-in r (a .lent); cards-are = λ i m. h .same r (a .lent) i m ∙ a .cards-are i m };
-      back-in = λ r a.
-          let b = h .pairs .back-in r (a .lent) in
-          record {
-            lent = b;
-            cards-are = λ i m.
-                sym (h .same (h .pairs .back r) b i m)
-                ∙ ap (λ (x : List ℕ). card (again d other x) i) (h .pairs .there-back r (a .lent))
-                ∙ a .cards-are i m;
-          };
-      back-there = λ r a. h .pairs .back-there r (a .lent);
-      there-back = λ r a. h .pairs .there-back r (a .lent);
-    }
+favours-none d made g group n other e c = none-favoured (hides d made g group n other e) c
 
 pub in-a-row : demand.InARow
 in-a-row d made g holders theirs whole few = rows.row d (made-in-range d made) g holders theirs whole few

@@ -9,7 +9,7 @@ use native.Mathlib.Omega.{arith}
 use lib.ListN.{length}
 use Rattle.answer.specs.Outcome.{Outcome}
 use Rattle.answer.specs.Lent.{left}
-use Rattle.field.specs.Pieces.{Random, Paired}
+use Rattle.field.specs.Pieces.{Paired}
 use Rattle.field.proofs.Laws.{paired-some}
 use Rattle.planning.specs.Groups.{_∈_, holds}
 use Rattle.answer.proofs.Truth.{never}
@@ -18,7 +18,7 @@ use Rattle.dealing.specs.Dealt.{Made, dealing, dealtInto, blockCount}
 use Rattle.dealing.proofs.HeldLaws.{card-depends, held-in}
 use Rattle.dealing.proofs.MadeLaws.{InRange, made-in-range, only-room, again-in-range}
 use Rattle.demands.specs.Group.{Group, Contains, Member}
-use Rattle.demands.specs.Demand3.{Hidden}
+use Rattle.demands.specs.Demand3.{LentFor, cardFrom, HiddenFrom, DealsAlike}
 use Rattle.demands.proofs.GroupLaws.{one-lost}
 
 -- a person who does not hold piece m holds other pieces
@@ -47,21 +47,20 @@ module _ (d : Deal) (made : Made d) (g : ℕ) (group : Group d g) (none : ¬ Con
   pairing : Paired (pieceCount d) (lost .0) (d .secret) other
   pairing = paired-some (pieceCount d) (lost .0) (d .secret) other (omega (arith, in-range .most)) (lost .1) (lost .2) (sym e)
 
-  same-card : (random : List ℕ) → Random (length (d .secret)) (pieceCount d) random → (i : ℕ) → Member d g i
-      → card (again d other (pairing .pairs .there random)) i ≡ card (again d (d .secret) random) i
+  same-card : (random : List ℕ) → LentFor d (d .secret) random → (i : ℕ) → Member d g i
+      → cardFrom d other (pairing .pairs .there random) i ≡ cardFrom d (d .secret) random i
   unfolding pieceCount values held
   same-card random r i m =
       card-depends (again d other (pairing .pairs .there random)) (again d (d .secret) random) i refl refl refl
       (λ j h. let b = held-in d i j h in pairing .same random r j (record { least = b .0; most = b .1; unlike = other-piece d i (lost .0) j (lost .3 i m) h }))
 
-  pub hidden : Hidden d g other
-  hidden =
-      record {
-        pairs = pairing .pairs;
-        same = same-card;
-        dealt = λ small random r i m out.
-            deals-same d other (pairing .pairs .there random) (d .secret) random
-            (again-in-range d in-range other (pairing .pairs .there random) e small (pairing .pairs .there-in random r))
-            (again-in-range d in-range (d .secret) random refl (in-range .secret-in) r)
-            i (m .least) (m .most) (same-card random r i m) out;
-      }
+  pub hidden : HiddenFrom d g other
+  hidden = record { pairs = pairing .pairs; same = same-card }
+
+pub deals-alike : DealsAlike
+deals-alike d made g other e h small random r i m out =
+    let f = made-in-range d made in
+    deals-same d other (h .pairs .there random) (d .secret) random
+    (again-in-range d f other (h .pairs .there random) e small (h .pairs .there-in random r))
+    (again-in-range d f (d .secret) random refl (f .secret-in) r)
+    i (m .least) (m .most) (h .same random r i m) out

@@ -6,7 +6,7 @@ use mathlib.Core.List.{List, _++_}
 use lib.ListN.{length, drop}
 use Rattle.answer.specs.Outcome.{Outcome, done, refused}
 use Rattle.field.specs.Poly.{Below}
-use Rattle.field.specs.Hiding.{Matched}
+use Rattle.field.specs.Hiding.{Matched, Hidden, Gives}
 use Rattle.field.specs.Pieces.{Random}
 use Rattle.planning.specs.Groups.{_∈_}
 use Rattle.dealing.specs.Deal.{Deal, again, pieceCount, card}
@@ -38,32 +38,41 @@ Short = (d : Deal) → Made d → (g : ℕ) → Group d g → ¬ Contains d g
     → (joining pile (length out) ≡ shortOf (length (gathered d g)) (pieceCount d))
     × (joinedInto pile out ≡ out)
 
+-- the randomness that dealing can be lent for this secret, by the deal's policy
+abbrev pub LentFor : Deal → List ℕ → List ℕ → Type 0
+LentFor d secret = Random (length secret) (pieceCount d)
+
+-- a holder's card, where this secret is dealt with that randomness, by the deal's policy and under its number
+abbrev pub cardFrom : Deal → List ℕ → List ℕ → ℕ → List ℕ
+cardFrom d secret random i = card (again d secret random) i
+
 -- The randomness of the deal's secret and that of another, in pairs, one to one (a map and its inverse, on both sides; each keeps the count
--- and the range), so that each member gets exactly the same card. Where the other secret is in range, dealing answers the same, and leaves
--- the same bytes in what it was lent.
-pub record Hidden (d : Deal) (g : ℕ) (other : List ℕ) : Type 0 where
-  pub pairs : Matched (Random (length (d .secret)) (pieceCount d)) (Random (length other) (pieceCount d))
-  pub same : (random : List ℕ) → Random (length (d .secret)) (pieceCount d) random → (i : ℕ) → Member d g i
-      → card (again d other (pairs .there random)) i ≡ card (again d (d .secret) random) i
-  pub dealt : Below other → (random : List ℕ) → Random (length (d .secret)) (pieceCount d) random → (i : ℕ) → Member d g i → (out : List ℕ)
-      → (dealing (again d other (pairs .there random)) i (length out) ≡ dealing (again d (d .secret) random) i (length out))
-      × (dealtInto (again d other (pairs .there random)) i out ≡ dealtInto (again d (d .secret) random) i out)
+-- and the range), so that each member gets exactly the same card.
+abbrev pub HiddenFrom : Deal → ℕ → List ℕ → Type 0
+HiddenFrom d g other = Hidden (LentFor d (d .secret)) (LentFor d other) (cardFrom d (d .secret)) (cardFrom d other) (Member d g)
 
 -- "If not, .. for every other secret of as many words there is randomness under which each member gets exactly the same card. That pairing
 -- of randomness with randomness is one to one."
 abbrev pub Hides : Type 0
-Hides = (d : Deal) → Made d → (g : ℕ) → Group d g → ¬ Contains d g → (other : List ℕ) → length other ≡ length (d .secret) → Hidden d g other
+Hides = (d : Deal) → Made d → (g : ℕ) → Group d g → ¬ Contains d g → (other : List ℕ) → length other ≡ length (d .secret) → HiddenFrom d g other
+
+-- Nor does dealing itself tell the two of a pair apart, where the other secret is in range: under any such pairing it answers the same for
+-- each member, and leaves the same bytes in what it was lent.
+abbrev pub DealsAlike : Type 0
+DealsAlike = (d : Deal) → Made d → (g : ℕ) (other : List ℕ) → length other ≡ length (d .secret) → (hidden : HiddenFrom d g other)
+    → Below other → (random : List ℕ) → LentFor d (d .secret) random → (i : ℕ) → Member d g i → (out : List ℕ)
+    → (dealing (again d other (hidden .pairs .there random)) i (length out) ≡ dealing (again d (d .secret) random) i (length out))
+    × (dealtInto (again d other (hidden .pairs .there random)) i out ≡ dealtInto (again d (d .secret) random) i out)
 
 -- Of this deal in particular: "for every other secret of as many words there is randomness under which each member gets exactly the same
 -- card".
 abbrev pub OtherRandomness : Type 0
 OtherRandomness = (d : Deal) → Made d → (g : ℕ) → Group d g → ¬ Contains d g → (other : List ℕ) → length other ≡ length (d .secret)
-    → (random : List ℕ) × Random (length other) (pieceCount d) random × ((i : ℕ) → Member d g i → card (again d other random) i ≡ card d i)
+    → (random : List ℕ) × LentFor d other random × ((i : ℕ) → Member d g i → cardFrom d other random i ≡ card d i)
 
 -- the randomness under which the secret gives each member i the card c i
-pub record GivesCards (d : Deal) (g : ℕ) (c : ℕ → List ℕ) (secret random : List ℕ) : Type 0 where
-  pub lent : Random (length secret) (pieceCount d) random
-  pub cards-are : (i : ℕ) → Member d g i → card (again d secret random) i ≡ c i
+abbrev pub GivesCards : Deal → ℕ → (ℕ → List ℕ) → List ℕ → List ℕ → Type 0
+GivesCards d g c secret = Gives (LentFor d secret) (cardFrom d secret) (Member d g) c
 
 -- "so with even randomness the cards favour no secret." Even randomness is each of the 32749 ^ (w(k−1)) lists as likely as any other; the
 -- chance of some cards, given a secret, is then how many of those lists give them, out of all. Whatever the cards c of the members are, the
