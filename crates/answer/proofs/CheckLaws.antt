@@ -81,6 +81,19 @@ unfolding firstFail
 passed-done [] end p = refl
 passed-done (l ∷ ls) end p = let h = passed p in not-given l ls end (h .0) ∙ passed-done ls end (h .1)
 
+-- what stands behind lines counts only where they pass
+pick-same : {A : Type 0} (x : Bool) (r o o′ : Outcome A) → (x ≡ false → o ≡ o′) → pick x r o ≡ pick x r o′
+pick-same true r o o′ f = refl
+pick-same false r o o′ f = f refl
+
+pub same-after : {A : Type 0} (ls ms ns : List Line) (o o′ : Outcome A) → (Passed ls → firstFail ms o ≡ firstFail ns o′)
+    → firstFail (ls ++ ms) o ≡ firstFail (ls ++ ns) o′
+unfolding firstFail
+same-after [] ms ns o o′ f = f passed-none
+same-after (l ∷ ls) ms ns o o′ f =
+    pick-same (l .given) (refused (number (l .kind)) (l .a) (l .b)) (firstFail (ls ++ ms) o) (firstFail (ls ++ ns) o′)
+    (λ e. same-after ls ms ns o o′ (λ p. f (passed-one e p)))
+
 -- ---- refused
 by-pick : {A : Type 0} (l : Line) (ls : List Line) (x : Bool) (o : Outcome A) (m a b : ℕ) → l .given ≡ x → (o ≡ refused m a b → By ls m a b)
     → pick x (refused (number (l .kind)) (l .a) (l .b)) o ≡ refused m a b → By (l ∷ ls) m a b

@@ -8,6 +8,7 @@ use lib.ListN.{length}
 use Rattle.answer.specs.Outcome.{done, refused}
 use Rattle.answer.specs.Checks.{firstFail}
 use Rattle.answer.specs.Places.{firstFrom, firstPlace, those}
+use Rattle.answer.specs.Lent.{noRoom}
 use Rattle.field.specs.Poly.{value}
 use Rattle.field.specs.Pieces.{values as valuesIn}
 use Rattle.planning.specs.Sets.{each, inside, member, stranger}
@@ -19,7 +20,7 @@ use Rattle.block.specs.Layout.{rightAt, firstWrong}
 use Rattle.block.specs.Open.{firstAbove}
 use Rattle.block.specs.Written.{body, blockBytes}
 use Rattle.dealing.specs.Deal.{pieceCount, held, values, header, blockOf, flat, cardBlocks, card}
-use Rattle.dealing.specs.Dealt.{badNumber, badHolder, badWidth, badSecret, badCount, badRandom, inputLines, noRoom, blockCount, dealLines, dealing, Made}
+use Rattle.dealing.specs.Dealt.{badNumber, badHolder, badWidth, badSecret, badCount, badRandom, inputLines, blockCount, dealLines, dealing, Made}
 use Rattle.dealing.proofs.Laws as law
 use Rattle.joining.specs.Pile.{blocks, restFrom, sameWords, sameDeal, placeOf, differIn, present}
 use Rattle.joining.specs.Joined.{linesFrom, everyBlock, mixedAt, contradicts, contradictedBy, conflictAt, joinLines, joining}

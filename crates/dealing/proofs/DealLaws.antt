@@ -1,6 +1,6 @@
 -- Dealing by what planning answered: a refusal is kept; the rows of an accepted plan give the deal's own card.
 -- Assumes nothing.
-use Prim.Native.Nat.{ℕ, _≤_}
+use Prim.Native.Nat.{ℕ, _*_, _≤_}
 use mathlib.Core.Path.{_≡_, refl, sym, ap, _∙_}
 use mathlib.Core.Bool.{Bool, not}
 use mathlib.Core.List.{List, [], _∷_, _++_, map}
@@ -9,18 +9,17 @@ use lib.ListN.{length}
 use Rattle.answer.specs.Outcome.{Outcome, done, refused}
 use Rattle.answer.specs.Checks.{Line, firstFail}
 use Rattle.answer.specs.Laws.{Passed}
-use Rattle.answer.specs.Lent.{left}
-use Rattle.answer.proofs.CheckLaws.{append-lines, same-refusal, done-passed, passed-done, passed-append}
+use Rattle.answer.specs.Lent.{noRoom, left}
+use Rattle.answer.proofs.CheckLaws.{append-lines, same-refusal, done-passed, passed-done, passed-append, same-after}
 use Rattle.answer.proofs.ThoseLaws.{those-same}
 use Rattle.planning.specs.Groups as planning
 use Rattle.planning.specs.Groups.{marked, holds}
 use Rattle.planning.specs.Planned.{planLines, planned, plannedRows}
 use Rattle.planning.proofs.Laws.{accepted-listed, some-piece, rows-mean}
 use Rattle.dealing.specs.Deal.{Deal, dealOf, pieceCount, held, values, header, blockOf, flat, cardBlocks, card}
-use Rattle.dealing.specs.Dealt.{inputLines, noRoom, blockCount, dealLines, dealing, dealtInto}
+use Rattle.dealing.specs.Dealt.{inputLines, blockCount, dealLines, dealing, dealtInto}
 use Rattle.dealing.specs.Rows.{inputsOf, inputsFor, Ready, heldIn, blockFor, cardIn, countIn, inputsSay}
 use Rattle.dealing.proofs.InputLaws.{lines-ready}
-use Rattle.dealing.proofs.RoomLaws.{room-same}
 
 -- refusals 8 to 11 of a deal
 abbrev pub linesFor : Deal → ℕ → List Line
@@ -30,13 +29,17 @@ linesFor d holder = inputLines (d .policy .people) (pieceCount d) (d .number) ho
 abbrev plannedFor : Deal → Outcome ℕ
 plannedFor d = planned (d .policy .people) (d .policy .required) (d .policy .forbidden)
 
+-- 12 ROOM, or how many blocks there are
+abbrev roomFor : ℕ → ℕ → Outcome ℕ
+roomFor blocks room = firstFail (noRoom (512 * blocks) blocks room ∷ []) (done blocks)
+
 -- ---- a plan that is refused
 module _ (d : Deal) (m a b : ℕ) (e : plannedFor d ≡ refused m a b) (holder : ℕ) where
   pub refused-deal : (room : ℕ) → refused m a b ≡ dealing d holder room
   unfolding dealing dealLines planned
   refused-deal room =
       let lines = planLines (d .policy .people) (d .policy .required) (d .policy .forbidden) in
-      let rest = linesFor d holder ++ noRoom (blockCount d holder) room ∷ [] in
+      let rest = linesFor d holder ++ noRoom (512 * blockCount d holder) (blockCount d holder) room ∷ [] in
       sym (append-lines lines rest (done (blockCount d holder)) ∙ same-refusal lines _ (firstFail rest (done (blockCount d holder))) m a b e)
 
   pub refused-out : (out : List ℕ) → out ≡ dealtInto d holder out
@@ -45,11 +48,11 @@ module _ (d : Deal) (m a b : ℕ) (e : plannedFor d ≡ refused m a b) (holder :
 
 -- ---- a plan that is accepted: the lines that are left speak
 pub past-plan : (d : Deal) → Passed (planLines (d .policy .people) (d .policy .required) (d .policy .forbidden)) → (holder room : ℕ)
-    → dealing d holder room ≡ firstFail (linesFor d holder ++ noRoom (blockCount d holder) room ∷ []) (done (blockCount d holder))
+    → dealing d holder room ≡ firstFail (linesFor d holder ++ noRoom (512 * blockCount d holder) (blockCount d holder) room ∷ []) (done (blockCount d holder))
 unfolding dealing dealLines
 past-plan d p holder room =
     let lines = planLines (d .policy .people) (d .policy .required) (d .policy .forbidden) in
-    let rest = linesFor d holder ++ noRoom (blockCount d holder) room ∷ [] in
+    let rest = linesFor d holder ++ noRoom (512 * blockCount d holder) (blockCount d holder) room ∷ [] in
     append-lines lines rest (done (blockCount d holder)) ∙ passed-done lines (firstFail rest (done (blockCount d holder))) p
 
 module _ (d : Deal) (e : plannedFor d ≡ done (pieceCount d)) where
@@ -83,8 +86,10 @@ module _ (d : Deal) (e : plannedFor d ≡ done (pieceCount d)) where
     says : (room : ℕ) → inputsSay rows (inputsFor d holder) room ≡ dealing d holder room
     unfolding blockCount
     says room =
-        room-same (linesFor d holder) (countIn rows (inputsFor d holder)) (blockCount d holder) room
-        (λ p. let r = lines-give p in ap length (held-rows (r .holder-in .0) (omega (arith, r .holder-in .1, r .few))))
+        same-after (linesFor d holder) _ _ _ _
+        (λ p.
+        let r = lines-give p in
+        ap (λ (js : List ℕ). roomFor (length js) room) (held-rows (r .holder-in .0) (omega (arith, r .holder-in .1, r .few))))
         ∙ sym (past-plan d plan-passes holder room)
 
     left-same : (o : Outcome ℕ) (new new′ old : List ℕ) → ((v : ℕ) → o ≡ done v → new ≡ new′) → left o new old ≡ left o new′ old
@@ -98,7 +103,7 @@ module _ (d : Deal) (e : plannedFor d ≡ done (pieceCount d)) where
         left-same o (cardIn rows (inputsFor d holder) (pieceCount d)) (card d holder) out
         (λ v q.
         let n = countIn rows (inputsFor d holder) in
-        let p = done-passed (linesFor d holder ++ noRoom n (length out) ∷ []) (done n) v (sym s ∙ q) .0 in
+        let p = done-passed (linesFor d holder ++ noRoom (512 * n) n (length out) ∷ []) (done n) v (sym s ∙ q) .0 in
         let r = lines-give (passed-append (linesFor d holder) p .0) in
         card-rows (r .holder-in .0) (omega (arith, r .holder-in .1, r .few)))
         ∙ ap (λ (x : Outcome ℕ). left x (card d holder) out) (s ∙ says (length out))

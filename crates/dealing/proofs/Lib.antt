@@ -1,6 +1,5 @@
 pub mod HeldLaws
 pub mod InputLaws
-pub mod RoomLaws
 pub mod CardLaws
 pub mod DealLaws
 pub mod MadeLaws

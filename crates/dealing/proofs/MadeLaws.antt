@@ -9,7 +9,7 @@ use borrow.Author.Tests.{ltb-false}
 use Rattle.answer.specs.Outcome.{done}
 use Rattle.answer.specs.Checks.{firstFail}
 use Rattle.answer.specs.Laws.{Passed}
-use Rattle.answer.specs.Lent.{over}
+use Rattle.answer.specs.Lent.{noRoom, over}
 use Rattle.answer.proofs.CheckLaws.{append-lines, done-passed, passed-done, passed, passed-append}
 use Rattle.answer.proofs.LentLaws as lent
 use Rattle.field.specs.Poly.{Below}
@@ -22,11 +22,10 @@ use Rattle.block.specs.Open.{opening, valueBytes, wordsOf, TrueBlock}
 use Rattle.block.specs.Written.{Buildable}
 use Rattle.block.proofs.Laws.{opens-written}
 use Rattle.dealing.specs.Deal.{Deal, again, pieceCount, held, values, header, blockOf, cardBlocks, card}
-use Rattle.dealing.specs.Dealt.{noRoom, blockCount, dealLines, dealing, dealtInto, Made}
+use Rattle.dealing.specs.Dealt.{blockCount, dealLines, dealing, dealtInto, Made}
 use Rattle.dealing.specs.Rows.{inputsFor, Ready, blockFor}
 use Rattle.dealing.proofs.HeldLaws.{held-in}
 use Rattle.dealing.proofs.InputLaws.{lines-ready, ready-lines}
-use Rattle.dealing.proofs.RoomLaws.{room-given}
 use Rattle.dealing.proofs.CardLaws.{ready-builds, block-size, flat-size}
 use Rattle.dealing.proofs.DealLaws.{linesFor, past-plan, plan-few}
 
@@ -64,7 +63,7 @@ plan-accepts d p = passed-done (planLines (d .policy .people) (d .policy .requir
 made-lines : (d : Deal) (m : Made d)
     → Passed (planLines (d .policy .people) (d .policy .required) (d .policy .forbidden))
     × Passed (linesFor d (m .holder))
-    × Passed (noRoom (blockCount d (m .holder)) (m .room) ∷ [])
+    × Passed (noRoom (512 * blockCount d (m .holder)) (blockCount d (m .holder)) (m .room) ∷ [])
 unfolding dealing dealLines
 made-lines d m =
     let all = done-passed (dealLines d (m .holder) (m .room)) (done (blockCount d (m .holder))) (m .blocks) (m .answer) .0 in
@@ -114,15 +113,15 @@ again-in-range d f secret random e b r =
 
 module _ (d : Deal) (f : InRange d) (holder : ℕ) (least : 1 ≤ holder) (most : holder ≤ d .policy .people) where
   -- ---- only the room is left to check
-  pub only-room : (room : ℕ) → dealing d holder room ≡ firstFail (noRoom (blockCount d holder) room ∷ []) (done (blockCount d holder))
+  pub only-room : (room : ℕ) → dealing d holder room ≡ firstFail (noRoom (512 * blockCount d holder) (blockCount d holder) room ∷ []) (done (blockCount d holder))
   only-room room =
-      let last = noRoom (blockCount d holder) room ∷ [] in
+      let last = noRoom (512 * blockCount d holder) (blockCount d holder) room ∷ [] in
       past-plan d (f .plan-passes) holder room
       ∙ append-lines (linesFor d holder) last (done (blockCount d holder))
       ∙ passed-done (linesFor d holder) (firstFail last (done (blockCount d holder))) (ready-lines (inputsFor d holder) (ready d f holder least most))
 
   pub deals-all : (room : ℕ) → 512 * blockCount d holder ≤ room → dealing d holder room ≡ done (blockCount d holder)
-  deals-all room h = only-room room ∙ sym (room-given (blockCount d holder) (blockCount d holder) room refl h)
+  deals-all room h = only-room room ∙ lent.room-given (512 * blockCount d holder) (blockCount d holder) room (done (blockCount d holder)) h
 
   -- ---- its card: blocks of 512 bytes
   pub block-length : (j : ℕ) → length (blockOf d holder j) ≡ 512

@@ -6,11 +6,11 @@ use mathlib.Core.Bool.{Bool, not, _||_}
 use mathlib.Core.List.{List, [], _∷_, _++_}
 use lib.Dec.{eqb, ltb}
 use lib.ListN.{length}
-use Rattle.answer.specs.declared.Kind.the-variants.{Deal as DealKind, Holder, Secret, Random, Room}
+use Rattle.answer.specs.declared.Kind.the-variants.{Deal as DealKind, Holder, Secret, Random}
 use Rattle.answer.specs.Outcome.{Outcome, done}
 use Rattle.answer.specs.Checks.{Line, line, firstFail}
 use Rattle.answer.specs.Places.{firstPlace, found}
-use Rattle.answer.specs.Lent.{left}
+use Rattle.answer.specs.Lent.{noRoom, left}
 use Rattle.planning.specs.Planned.{planLines}
 use Rattle.dealing.specs.Deal.{Deal, pieceCount, held, card}
 
@@ -51,10 +51,6 @@ unfoldable pub inputLines : ℕ → ℕ → ℕ → ℕ → List ℕ → List �
 inputLines people k number holder secret random =
     badNumber number ∷ badHolder people holder ∷ badWidth secret ∷ badSecret secret ∷ badCount k secret random ∷ badRandom random ∷ []
 
--- 12 ROOM: "lent output too short", "a: blocks .. needed"
-unfoldable pub noRoom : ℕ → ℕ → Line
-noRoom blocks room = line Room (ltb room (512 * blocks)) blocks 0
-
 -- how many blocks the holder's card has
 unfoldable pub blockCount : Deal → ℕ → ℕ
 blockCount d holder = length (held d holder)
@@ -63,7 +59,7 @@ blockCount d holder = length (held d holder)
 unfoldable pub dealLines : Deal → ℕ → ℕ → List Line
 dealLines d holder room =
     planLines (d .policy .people) (d .policy .required) (d .policy .forbidden)
-    ++ (inputLines (d .policy .people) (pieceCount d) (d .number) holder (d .secret) (d .random) ++ noRoom (blockCount d holder) room ∷ [])
+    ++ (inputLines (d .policy .people) (pieceCount d) (d .number) holder (d .secret) (d .random) ++ noRoom (512 * blockCount d holder) (blockCount d holder) room ∷ [])
 
 -- what dealing answers: "Dealing returns the number of blocks"
 unfoldable pub dealing : Deal → ℕ → ℕ → Outcome ℕ

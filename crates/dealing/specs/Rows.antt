@@ -1,19 +1,20 @@
 -- A holder's card as the code makes it from the table of rows, and what the checks before it have made sure of. No promise to a caller
 -- names these. Assumes nothing.
-use Prim.Native.Nat.{ℕ, _-_, _≤_}
+use Prim.Native.Nat.{ℕ, _-_, _*_, _≤_}
 use mathlib.Core.Bool.{Bool, not}
 use mathlib.Core.List.{List, [], _∷_, _++_, map}
 use lib.ListN.{length}
 use Rattle.answer.specs.Outcome.{Outcome, done}
 use Rattle.answer.specs.Checks.{firstFail}
 use Rattle.answer.specs.Places.{those}
+use Rattle.answer.specs.Lent.{noRoom}
 use Rattle.field.specs.Poly.{Below}
 use Rattle.field.specs.Pieces.{Random, values as valuesIn}
 use Rattle.planning.specs.Groups.{marked}
 use Rattle.block.specs.declared.Words.{Words}
 use Rattle.block.specs.Written.{blockBytes}
 use Rattle.dealing.specs.Deal.{Deal, pieceCount, flat}
-use Rattle.dealing.specs.Dealt.{inputLines, noRoom}
+use Rattle.dealing.specs.Dealt.{inputLines}
 
 -- what a card is made from, where planning answered so many pieces
 pub record Inputs : Type 0 where
@@ -74,10 +75,10 @@ countIn rows t = length (heldIn rows (t .holder) (t .pieces))
 
 -- 12 ROOM, or that number
 abbrev pub roomSays : List (List Bool) → Inputs → ℕ → Outcome ℕ
-roomSays rows t room = firstFail (noRoom (countIn rows t) room ∷ []) (done (countIn rows t))
+roomSays rows t room = firstFail (noRoom (512 * countIn rows t) (countIn rows t) room ∷ []) (done (countIn rows t))
 
 -- 8 to 12, or that number
 abbrev pub inputsSay : List (List Bool) → Inputs → ℕ → Outcome ℕ
 inputsSay rows t room =
-    firstFail (inputLines (t .people) (t .pieces) (t .number) (t .holder) (t .secret) (t .random) ++ noRoom (countIn rows t) room ∷ [])
+    firstFail (inputLines (t .people) (t .pieces) (t .number) (t .holder) (t .secret) (t .random) ++ noRoom (512 * countIn rows t) (countIn rows t) room ∷ [])
     (done (countIn rows t))

@@ -2,12 +2,13 @@
 use mathlib.Core.Path.{refl, sym, ap}
 use mathlib.Core.List.{List, [], _∷_, _++_}
 use Prim.Native.Nat.{ℕ}
+use Rattle.answer.specs.Lent.{noRoom}
 use Rattle.planning.specs.Groups.{pieceCount, some}
 use Rattle.planning.specs.Planned.{planLines, planned, people, long, strangers, nobody, opens, clash, wide, listLines}
 use Rattle.block.specs.Layout.{headerOf}
 use Rattle.block.specs.Open.{opening}
 use Rattle.block.proofs.Laws.{which-refusals}
-use Rattle.dealing.specs.Dealt.{badNumber, badHolder, badWidth, badSecret, badCount, badRandom, inputLines, noRoom, blockCount, dealLines, dealing}
+use Rattle.dealing.specs.Dealt.{badNumber, badHolder, badWidth, badSecret, badCount, badRandom, inputLines, blockCount, dealLines, dealing}
 use Rattle.dealing.proofs.DealLaws.{refused-deal}
 use Rattle.dealing.proofs.MadeLaws.{made-in-range}
 use Rattle.dealing.proofs.Laws as dealt

@@ -1,13 +1,15 @@
 -- `dealing::deal_planned` meets its contract: a refusal of the checks is kept, and else what writing the card answers is answered.
 -- Assumes nothing.
+use Prim.Native.Nat.{_*_}
 use mathlib.Core.Path.{refl, sym, ap, _∙_}
 use mathlib.Core.List.{List, [], _∷_}
 use lib.ListN.{length}
 use borrow.Author.Needs.{needs}
 use Rattle.answer.specs.Outcome.{outcome, done}
 use Rattle.answer.specs.Checks.{Line}
+use Rattle.answer.specs.Lent.{noRoom}
 use Rattle.answer.proofs.CheckLaws.{stops, goes-on, done-passed}
-use Rattle.dealing.specs.Dealt.{inputLines, noRoom}
+use Rattle.dealing.specs.Dealt.{inputLines}
 use Rattle.dealing.specs.Rows.{inputsOf, heldIn}
 use Rattle.dealing.proofs.InputLaws.{lines-ready}
 use Rattle.dealing.proofs.deal_planned.Statement.{statement}
@@ -39,7 +41,7 @@ returns c =
     let m = c .before .before in
     let s = m .before .before .before .before .before in
     let n = length (heldIn (s .args .rows .now) (s .args .holder) (s .args .k)) in
-    (stops (lines s) (m .before .check-inputs .ensures) (noRoom n (length (s .args .out .now)) ∷ []) (done n) (c .before .r .given .1), refl)
+    (stops (lines s) (m .before .check-inputs .ensures) (noRoom (512 * n) n (length (s .args .out .now)) ∷ []) (done n) (c .before .r .given .1), refl)
 
 same-length : tie.Need-same-length
 same-length c = search needs
@@ -50,7 +52,7 @@ returns-2 c =
     let e = c .before .before .before .before in
     let s = e .before .before .before .before .before .before in
     let n = length (heldIn (s .args .rows .now) (s .args .holder) (s .args .k)) in
-    let on = goes-on (lines s) (e .before .before .check-inputs .ensures) (noRoom n (length (s .args .out .now)) ∷ []) (done n) (e .enum-told .given .1) in
+    let on = goes-on (lines s) (e .before .before .check-inputs .ensures) (noRoom (512 * n) n (length (s .args .out .now)) ∷ []) (done n) (e .enum-told .given .1) in
     (w .ensures .0 ∙ sym on, w .ensures .1)
 
 pub deal-planned-spec : {M : Type 1} → statement M

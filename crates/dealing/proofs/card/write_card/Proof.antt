@@ -6,9 +6,9 @@ use mathlib.Core.Logic.{⊎-elim}
 use native.Mathlib.Omega.{arith}
 use lib.ListN.{length}
 use borrow.Author.Needs.{needs}
-use Rattle.answer.proofs.LentLaws.{refusal-keeps}
+use Rattle.answer.specs.Outcome.{done}
+use Rattle.answer.proofs.LentLaws.{room-refused, room-given, refusal-keeps}
 use Rattle.dealing.specs.Rows.{inputsOf, heldIn}
-use Rattle.dealing.proofs.RoomLaws.{room-refused, room-given}
 use Rattle.dealing.proofs.CardLaws.{held-few, Laid, laid-start, laid-skip, laid-take, laid-end, room-left}
 use Rattle.dealing.proofs.card.write_card.Statement.{statement}
 use Rattle.dealing.proofs.card.write_card.Tie as tie
@@ -51,7 +51,7 @@ returns c =
     let h = c .before .before .held-count in
     let s = c .before .before .before .before .before .before in
     let n = length (heldIn (s .args .rows .now) (s .args .holder) (s .args .k)) in (
-      c .refuse .ensures ∙ room-refused (h .result) n (length (s .args .out .now)) (h .ensures) (c .before .if1 .taken),
+      rw (← h .ensures) (c .refuse .ensures ∙ sym (room-refused (512 * h .result) (h .result) (length (s .args .out .now)) (done (h .result)) (c .before .if1 .taken))),
       sym (refusal-keeps _ 12 (h .result) 0 _ (s .args .out .now) (c .refuse .ensures)),
     )
 
@@ -113,7 +113,7 @@ returns-2 c =
     let h = l .before .before .held-count in
     let s = l .before .before .before .before .before .before in
     let n = length (heldIn (s .args .rows .now) (s .args .holder) (s .args .k)) in (
-      room-given (h .result) n (length (s .args .out .now)) (h .ensures) (l .before .if1 .left),
+      rw (← h .ensures) (sym (room-given (512 * h .result) (h .result) (length (s .args .out .now)) (done (h .result)) (l .before .if1 .left))),
       laid-end (s .args .rows .now) (s .pre) (s .args .out .now) (v .out) (v .at) (v .row) (c .loop-test .left) (v .inv),
     )
 
