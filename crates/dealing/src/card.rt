@@ -8,8 +8,6 @@ ghost use Prim.Native.Nat.{_+_, _*_, _≤_};
 ghost use lib.ListN.{length, take, drop};
 ghost use Rattle.answer.specs.Outcome.{outcome};
 ghost use Rattle.answer.specs.Lent.{over, left};
-ghost use Rattle.field.specs.Poly.{Below};
-ghost use Rattle.field.specs.Pieces.{values};
 ghost use Rattle.dealing.specs.Rows.{inputsOf, Ready, heldIn, blockFor, cardIn, roomSays};
 
 // How many of the first k rows do not mark the holder.
@@ -27,24 +25,6 @@ fn held_count(rows: &[[bool; 8]; 70], k: usize, holder: usize) -> usize
         i += 1;
     }
     count
-}
-
-// The values of piece j: the first of the array, one for each word of the secret, which has q coefficients.
-fn values_of(secret: &[u16], random: &[u16], q: usize, j: u16) -> [u16; 16]
-    requires { ⌜ (length (now secret) ≤ 16) × (length (now random) ≡ length (now secret) * q) ⌝ }
-    requires { ⌜ Below (now secret) × Below (now random) ⌝ }
-    ensures { λ r. ⌜ take (length (now (secret .entry))) r ≡ values q (now (secret .entry)) (now (random .entry)) j ⌝ }
-{
-    let mut made = [0u16; 16];
-    let mut i: usize = 0;
-    while i < secret.len() {
-        let d = secret[i];
-        let at = i * q;
-        let end = at + q;
-        made[i] = field::piece_of(d, &random[at..end], j);
-        i += 1;
-    }
-    made
 }
 
 // Writes the block of piece j from byte `at` on; the rest stays.
@@ -67,7 +47,7 @@ fn write_piece(
         ⌜ now (out .exit) ≡ take at (now (out .entry)) ++ over (blockFor t j) (drop at (now (out .entry))) ⌝ }
 {
     let width = secret.len();
-    let made = values_of(secret, random, k - 1, j as u16);
+    let made = field::values_of(secret, random, k - 1, j as u16);
     let h = Words {
         mark: 1987,
         deal: deal_number as u16,

@@ -5,6 +5,7 @@ pub mod Sums
 pub mod Horner
 pub mod Unique
 pub mod ValuesLaws
+pub mod ValuesMade
 pub mod RoundTrip
 pub mod Loosened
 pub mod Products

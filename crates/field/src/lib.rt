@@ -2,9 +2,10 @@
 // No value above 32748 enters a sum: where one could, a `requires` says so and every caller shows it.
 ghost use mathlib.Core.Path.{_≡_};
 ghost use mathlib.Core.List.{_∷_};
-ghost use Prim.Native.Nat.{_%_, _<_, _≤_};
-ghost use lib.ListN.{length};
+ghost use Prim.Native.Nat.{_*_, _%_, _<_, _≤_};
+ghost use lib.ListN.{length, take};
 ghost use Rattle.field.specs.Poly.{p, Below, value, piece};
+ghost use Rattle.field.specs.Pieces.{values};
 ghost use Rattle.field.specs.Joined.{joined};
 ghost use Rattle.field.specs.Inverse.{inverse};
 ghost use Rattle.field.specs.Lagrange.{lagrangeWeight, Weights, weightsOf};
@@ -37,6 +38,24 @@ pub fn piece_of(d: u16, coefficients: &[u16], j: u16) -> u16
     ensures { λ r. ⌜ r ≡ piece d (now (coefficients .entry)) j ⌝ }
 {
     ((value_at(coefficients, j) * (j as u32) + d as u32) % 32749) as u16
+}
+
+// The values of piece j: the first of the array, one for each word of the secret, which has q coefficients.
+pub fn values_of(secret: &[u16], random: &[u16], q: usize, j: u16) -> [u16; 16]
+    requires { ⌜ (length (now secret) ≤ 16) × (length (now random) ≡ length (now secret) * q) ⌝ }
+    requires { ⌜ Below (now secret) × Below (now random) ⌝ }
+    ensures { λ r. ⌜ take (length (now (secret .entry))) r ≡ values q (now (secret .entry)) (now (random .entry)) j ⌝ }
+{
+    let mut made = [0u16; 16];
+    let mut i: usize = 0;
+    while i < secret.len() {
+        let d = secret[i];
+        let at = i * q;
+        let end = at + q;
+        made[i] = piece_of(d, &random[at..end], j);
+        i += 1;
+    }
+    made
 }
 
 // The inverse of a, by the remainders of 32749.

@@ -1,12 +1,12 @@
--- `dealing::card::values_of` meets its contract: the values made and those to come are all.
+-- `field::values_of` meets its contract: the values made and those to come are all.
 -- Assumes nothing.
 use Prim.Native.Nat.{_+_, _-_, _*_, _≤_}
 use mathlib.Core.Path.{refl}
 use native.Mathlib.Omega.{arith}
 use lib.ListN.{length}
-use Rattle.dealing.proofs.CardLaws.{Valued, valued-start, valued-turn, valued-end, coefficients-in, coefficients-below}
-use Rattle.dealing.proofs.card.values_of.Statement.{statement}
-use Rattle.dealing.proofs.card.values_of.Tie as tie
+use Rattle.field.proofs.ValuesMade.{Valued, valued-start, valued-turn, valued-end, coefficients-in, coefficients-below}
+use Rattle.field.proofs.values_of.Statement.{statement}
+use Rattle.field.proofs.values_of.Tie as tie
 
 abbrev Inv-loop : tie.InvT-loop
 Inv-loop secret random q j made₀ i₀ made i = Valued secret random q j made i
