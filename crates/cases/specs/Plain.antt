@@ -9,6 +9,7 @@ use lib.ListN.{length}
 use Rattle.answer.specs.Outcome.{done}
 use Rattle.planning.specs.Sets.{worth}
 use Rattle.planning.specs.Groups.{groups, rowsOf}
+use Rattle.planning.specs.Policy.{Policy}
 use Rattle.planning.specs.Planned.{planned, plannedRows}
 use Rattle.print.specs.Lines.{feed}
 
@@ -28,7 +29,7 @@ textOf [] = []
 textOf (line ∷ more) = bytes line ++ feed ++ textOf more
 
 -- planning accepts the policy: its pieces belong to these groups, in this order, and so does the table of rows
-pub record Accepted (n : ℕ) (required forbidden pieces : List ℕ) : Type 0 where
-  pub answer : planned n required forbidden ≡ done (length pieces)
-  pub groups-are : groups n required ≡ pieces
-  pub rows : plannedRows n required forbidden ≡ rowsOf pieces
+pub record Accepted (p : Policy) (pieces : List ℕ) : Type 0 where
+  pub answer : planned p ≡ done (length pieces)
+  pub groups-are : groups (p .people) (p .required) ≡ pieces
+  pub rows : plannedRows p ≡ rowsOf pieces

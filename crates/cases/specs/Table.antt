@@ -10,21 +10,19 @@ use Rattle.field.specs.Poly.{piece}
 use Rattle.lists.specs.Run.{run}
 use Rattle.field.specs.Joined.{joined}
 use Rattle.planning.specs.Groups.{held}
+use Rattle.planning.specs.Policy.{Policy, policyOf}
 use Rattle.planning.specs.Planned.{planned}
 use Rattle.block.specs.Words.{bytesOf}
-use Rattle.dealing.specs.Deal.{Deal, dealOf, card}
+use Rattle.dealing.specs.Deal.{Deal, dealFrom, card}
 use Rattle.dealing.specs.Dealt.{dealing, dealtInto}
 use Rattle.joining.specs.Joined.{joining}
 use Rattle.joining.specs.Secret.{joinedInto}
 use Rattle.text.specs.Listing.{listed}
 use Rattle.cases.specs.Plain.{set, textOf, Accepted}
 
--- the policy of P1: four people, these sets required, this one forbidden
-abbrev pub required1 : List ℕ
-required1 = set (1 ∷ 2 ∷ []) ∷ set (2 ∷ 3 ∷ []) ∷ set (3 ∷ 4 ∷ []) ∷ []
-
-abbrev pub forbidden1 : List ℕ
-forbidden1 = set (1 ∷ 4 ∷ []) ∷ []
+-- the policy of P1: four people, these sets required, the last one forbidden
+abbrev pub policy1 : Policy
+policy1 = policyOf 4 (set (1 ∷ 2 ∷ []) ∷ set (2 ∷ 3 ∷ []) ∷ set (3 ∷ 4 ∷ []) ∷ []) (set (1 ∷ 4 ∷ []) ∷ [])
 
 -- its text
 abbrev pub text1 : List ℕ
@@ -50,7 +48,7 @@ pairs = set (1 ∷ 2 ∷ []) ∷ set (1 ∷ 3 ∷ []) ∷ set (2 ∷ 3 ∷ []) �
 
 -- the deal of P11: "policy P1, deal 7, P7"
 abbrev pub deal11 : Deal
-deal11 = dealOf 4 required1 forbidden1 7 (1234 ∷ []) (5 ∷ 7 ∷ [])
+deal11 = dealFrom policy1 7 (1234 ∷ []) (5 ∷ 7 ∷ [])
 
 -- the block of P11, all its 256 words
 abbrev pub words11 : List ℕ
@@ -62,22 +60,22 @@ pile12 = card deal11 1 ++ card deal11 4
 
 pub record Table : Type 0 where
   -- "the listing above": what planning answers, what each holder has, and every byte that the listing program prints
-  pub p1 : Accepted 4 required1 forbidden1 (set (1 ∷ 3 ∷ []) ∷ set (1 ∷ 4 ∷ []) ∷ set (2 ∷ 4 ∷ []) ∷ [])
-      × (map (held 4 required1) (1 ∷ 2 ∷ 3 ∷ 4 ∷ []) ≡ (3 ∷ []) ∷ (1 ∷ 2 ∷ []) ∷ (2 ∷ 3 ∷ []) ∷ (1 ∷ []) ∷ [])
+  pub p1 : Accepted policy1 (set (1 ∷ 3 ∷ []) ∷ set (1 ∷ 4 ∷ []) ∷ set (2 ∷ 4 ∷ []) ∷ [])
+      × (map (held 4 (policy1 .required)) (1 ∷ 2 ∷ 3 ∷ 4 ∷ []) ≡ (3 ∷ []) ∷ (1 ∷ 2 ∷ []) ∷ (2 ∷ 3 ∷ []) ∷ (1 ∷ []) ∷ [])
       × (listed text1 ≡ printed1)
   -- "n = 1, required {1}: one piece, missing nobody, held by 1"
-  pub p2 : Accepted 1 (set (1 ∷ []) ∷ []) [] (set [] ∷ [])
+  pub p2 : Accepted (policyOf 1 (set (1 ∷ []) ∷ []) []) (set [] ∷ [])
       × (held 1 (set (1 ∷ []) ∷ []) 1 ≡ 1 ∷ [])
   -- "n = 3, required {1,2}: pieces for {1,3}, {2,3}; holder 3 has none"
-  pub p3 : Accepted 3 (set (1 ∷ 2 ∷ []) ∷ []) [] (set (1 ∷ 3 ∷ []) ∷ set (2 ∷ 3 ∷ []) ∷ [])
+  pub p3 : Accepted (policyOf 3 (set (1 ∷ 2 ∷ []) ∷ []) []) (set (1 ∷ 3 ∷ []) ∷ set (2 ∷ 3 ∷ []) ∷ [])
       × (held 3 (set (1 ∷ 2 ∷ []) ∷ []) 3 ≡ [])
   -- "n = 3, every pair required: groups {1}, {2}, {3}; holder 1 has 2 and 3"
-  pub p4 : Accepted 3 pairs [] (set (1 ∷ []) ∷ set (2 ∷ []) ∷ set (3 ∷ []) ∷ [])
+  pub p4 : Accepted (policyOf 3 pairs []) (set (1 ∷ []) ∷ set (2 ∷ []) ∷ set (3 ∷ []) ∷ [])
       × (held 3 pairs 1 ≡ 2 ∷ 3 ∷ [])
   -- "n = 2, required {1,2}, forbidden {1,2}: CLASH 1, 1"
-  pub p5 : planned 2 (set (1 ∷ 2 ∷ []) ∷ []) (set (1 ∷ 2 ∷ []) ∷ []) ≡ refused (number Clash) 1 1
+  pub p5 : planned (policyOf 2 (set (1 ∷ 2 ∷ []) ∷ []) (set (1 ∷ 2 ∷ []) ∷ [])) ≡ refused (number Clash) 1 1
   -- "forbidden {1} instead: accepted": pieces for {1}, {2}
-  pub p6 : Accepted 2 (set (1 ∷ 2 ∷ []) ∷ []) (set (1 ∷ []) ∷ []) (set (1 ∷ []) ∷ set (2 ∷ []) ∷ [])
+  pub p6 : Accepted (policyOf 2 (set (1 ∷ 2 ∷ []) ∷ []) (set (1 ∷ []) ∷ [])) (set (1 ∷ []) ∷ set (2 ∷ []) ∷ [])
   -- "secret 1234, coefficients 5, 7: pieces 1246, 1272, 1312"
   pub p7 : run (piece 1234 (5 ∷ 7 ∷ [])) 1 3 ≡ 1246 ∷ 1272 ∷ 1312 ∷ []
   -- "joined: 1234"

@@ -16,7 +16,7 @@ use Rattle.planning.specs.Groups as planning
 use Rattle.planning.specs.Groups.{marked, holds}
 use Rattle.planning.specs.Planned.{planLines, planned, plannedRows}
 use Rattle.planning.proofs.Laws.{accepted-listed, some-piece, rows-mean}
-use Rattle.dealing.specs.Deal.{Deal, dealOf, pieceCount, held, values, header, blockOf, flat, cardBlocks, card}
+use Rattle.dealing.specs.Deal.{Deal, pieceCount, held, values, header, blockOf, flat, cardBlocks, card}
 use Rattle.dealing.specs.Dealt.{inputLines, blockCount, dealLines, dealing, dealtInto}
 use Rattle.dealing.specs.Rows.{inputsOf, inputsFor, Ready, heldIn, blockFor, cardIn, countIn, inputsSay}
 use Rattle.dealing.proofs.InputLaws.{lines-ready}
@@ -27,7 +27,7 @@ linesFor d holder = inputLines (d .policy .people) (pieceCount d) (d .number) ho
 
 -- what planning answers of a deal's policy
 abbrev plannedFor : Deal → Outcome ℕ
-plannedFor d = planned (d .policy .people) (d .policy .required) (d .policy .forbidden)
+plannedFor d = planned (d .policy)
 
 -- 12 ROOM, or how many blocks there are
 abbrev roomFor : ℕ → ℕ → Outcome ℕ
@@ -38,7 +38,7 @@ module _ (d : Deal) (m a b : ℕ) (e : plannedFor d ≡ refused m a b) (holder :
   pub refused-deal : (room : ℕ) → refused m a b ≡ dealing d holder room
   unfolding dealing dealLines planned
   refused-deal room =
-      let lines = planLines (d .policy .people) (d .policy .required) (d .policy .forbidden) in
+      let lines = planLines (d .policy) in
       let rest = linesFor d holder ++ noRoom (512 * blockCount d holder) (blockCount d holder) room ∷ [] in
       sym (append-lines lines rest (done (blockCount d holder)) ∙ same-refusal lines _ (firstFail rest (done (blockCount d holder))) m a b e)
 
@@ -47,26 +47,26 @@ module _ (d : Deal) (m a b : ℕ) (e : plannedFor d ≡ refused m a b) (holder :
   refused-out out = ap (λ (o : Outcome ℕ). left o (card d holder) out) (refused-deal (length out))
 
 -- ---- a plan that is accepted: the lines that are left speak
-pub past-plan : (d : Deal) → Passed (planLines (d .policy .people) (d .policy .required) (d .policy .forbidden)) → (holder room : ℕ)
+pub past-plan : (d : Deal) → Passed (planLines (d .policy)) → (holder room : ℕ)
     → dealing d holder room ≡ firstFail (linesFor d holder ++ noRoom (512 * blockCount d holder) (blockCount d holder) room ∷ []) (done (blockCount d holder))
 unfolding dealing dealLines
 past-plan d p holder room =
-    let lines = planLines (d .policy .people) (d .policy .required) (d .policy .forbidden) in
+    let lines = planLines (d .policy) in
     let rest = linesFor d holder ++ noRoom (512 * blockCount d holder) (blockCount d holder) room ∷ [] in
     append-lines lines rest (done (blockCount d holder)) ∙ passed-done lines (firstFail rest (done (blockCount d holder))) p
 
 module _ (d : Deal) (e : plannedFor d ≡ done (pieceCount d)) where
   abbrev rows : List (List Bool)
-  rows = plannedRows (d .policy .people) (d .policy .required) (d .policy .forbidden)
+  rows = plannedRows (d .policy)
 
-  plan-passes : Passed (planLines (d .policy .people) (d .policy .required) (d .policy .forbidden))
+  plan-passes : Passed (planLines (d .policy))
   unfolding planned
-  plan-passes = done-passed (planLines (d .policy .people) (d .policy .required) (d .policy .forbidden)) _ (pieceCount d) e .0
+  plan-passes = done-passed (planLines (d .policy)) _ (pieceCount d) e .0
 
   pub plan-few : (d .policy .people ≤ 8) × (1 ≤ pieceCount d) × (pieceCount d ≤ 70)
   plan-few =
-      let k = some-piece (d .policy .people) (d .policy .required) (d .policy .forbidden) (pieceCount d) e in
-      (accepted-listed (d .policy .people) (d .policy .required) (d .policy .forbidden) (pieceCount d) e .few, k .1, k .2)
+      let k = some-piece (d .policy) (pieceCount d) e in
+      (accepted-listed (d .policy) (pieceCount d) e .few, k .1, k .2)
 
   module _ (holder : ℕ) where
     lines-give : Passed (linesFor d holder) → Ready (inputsFor d holder)
@@ -77,7 +77,7 @@ module _ (d : Deal) (e : plannedFor d ≡ done (pieceCount d)) where
     unfolding heldIn held planning.held holds pieceCount
     held-rows l u =
         those-same (λ j. not (marked rows j holder)) (holds (d .policy .people) (d .policy .required) holder) 1 (pieceCount d)
-        (λ j low high. ap not (rows-mean (d .policy .people) (d .policy .required) (d .policy .forbidden) (pieceCount d) e holder j l u low .0 (omega arith)))
+        (λ j low high. ap not (rows-mean (d .policy) (pieceCount d) e holder j l u low .0 (omega arith)))
 
     card-rows : 1 ≤ holder → holder ≤ 8 → cardIn rows (inputsFor d holder) (pieceCount d) ≡ card d holder
     unfolding cardIn card cardBlocks blockFor blockOf header values
@@ -114,20 +114,17 @@ module _ (d : Deal) (e : plannedFor d ≡ done (pieceCount d)) where
     planned-deal o out now s l = (s ∙ says (length out), l ∙ leaves o out s)
 
 -- ---- the same where the code has its own k and rows
-module _ (people : ℕ) (required forbidden : List ℕ) (number : ℕ) (secret random : List ℕ) (k : ℕ) (e : planned people required forbidden ≡ done k) where
-  abbrev deal : Deal
-  deal = dealOf people required forbidden number secret random
-
-  count : k ≡ pieceCount deal
+module _ (d : Deal) (k : ℕ) (e : planned (d .policy) ≡ done k) where
+  count : k ≡ pieceCount d
   unfolding pieceCount
-  count = some-piece people required forbidden k e .0
+  count = some-piece (d .policy) k e .0
 
-  pub plan-gives : (people ≤ 8) × (1 ≤ k) × (k ≤ 70)
-  plan-gives = rw count (plan-few deal (rw (← count) e))
+  pub plan-gives : (d .policy .people ≤ 8) × (1 ≤ k) × (k ≤ 70)
+  plan-gives = rw count (plan-few d (rw (← count) e))
 
-  pub deals : (rows : List (List Bool)) → rows ≡ plannedRows people required forbidden → (holder : ℕ) (o : Outcome ℕ) (out now : List ℕ)
-      → o ≡ inputsSay rows (inputsOf people k number holder secret random) (length out)
-      → now ≡ left o (cardIn rows (inputsOf people k number holder secret random) k) out
-      → (o ≡ dealing deal holder (length out)) × (now ≡ dealtInto deal holder out)
+  pub deals : (rows : List (List Bool)) → rows ≡ plannedRows (d .policy) → (holder : ℕ) (o : Outcome ℕ) (out now : List ℕ)
+      → o ≡ inputsSay rows (inputsOf (d .policy .people) k (d .number) holder (d .secret) (d .random)) (length out)
+      → now ≡ left o (cardIn rows (inputsOf (d .policy .people) k (d .number) holder (d .secret) (d .random)) k) out
+      → (o ≡ dealing d holder (length out)) × (now ≡ dealtInto d holder out)
   deals rows same holder o out now s l =
-      planned-deal deal (rw (← count) e) holder o out now (rw (count, same) at s) (rw (count, same) at l)
+      planned-deal d (rw (← count) e) holder o out now (rw (count, same) at s) (rw (count, same) at l)

@@ -31,7 +31,7 @@ use Rattle.dealing.proofs.DealLaws.{linesFor, past-plan, plan-few}
 
 -- ---- what every card of such a deal rests on: planning accepts its policy, and the rest is in its range
 pub record InRange (d : Deal) : Type 0 where
-  pub plan-passes : Passed (planLines (d .policy .people) (d .policy .required) (d .policy .forbidden))
+  pub plan-passes : Passed (planLines (d .policy))
   pub few : d .policy .people ≤ 8
   pub least : 1 ≤ pieceCount d
   pub most : pieceCount d ≤ 70
@@ -54,20 +54,20 @@ ready d f holder l u =
       random-in = f .random-in;
     }
 
-plan-accepts : (d : Deal) → Passed (planLines (d .policy .people) (d .policy .required) (d .policy .forbidden))
-    → planned (d .policy .people) (d .policy .required) (d .policy .forbidden) ≡ done (pieceCount d)
+plan-accepts : (d : Deal) → Passed (planLines (d .policy))
+    → planned (d .policy) ≡ done (pieceCount d)
 unfolding planned pieceCount
-plan-accepts d p = passed-done (planLines (d .policy .people) (d .policy .required) (d .policy .forbidden)) (done (pieceCount d)) p
+plan-accepts d p = passed-done (planLines (d .policy)) (done (pieceCount d)) p
 
 -- ---- a card was dealt, so everything passed
 made-lines : (d : Deal) (m : Made d)
-    → Passed (planLines (d .policy .people) (d .policy .required) (d .policy .forbidden))
+    → Passed (planLines (d .policy))
     × Passed (linesFor d (m .holder))
     × Passed (noRoom (512 * blockCount d (m .holder)) (blockCount d (m .holder)) (m .room) ∷ [])
 unfolding dealing dealLines
 made-lines d m =
     let all = done-passed (dealLines d (m .holder) (m .room)) (done (blockCount d (m .holder))) (m .blocks) (m .answer) .0 in
-    let p = passed-append (planLines (d .policy .people) (d .policy .required) (d .policy .forbidden)) all in
+    let p = passed-append (planLines (d .policy)) all in
     let q = passed-append (linesFor d (m .holder)) (p .1) in
     (p .0, q .0, q .1)
 

@@ -5,14 +5,9 @@ use mathlib.Core.List.{List, [], _∷_, _++_, map}
 use lib.ListN.{length}
 use Rattle.field.specs.Pieces.{values as valuesIn}
 use Rattle.planning.specs.Groups as planning
+use Rattle.planning.specs.Policy.{Policy}
 use Rattle.block.specs.declared.Words.{Words}
 use Rattle.block.specs.Written.{blockBytes}
-
--- "a policy (a number of people, a list of required sets, a list of forbidden sets)"
-pub record Policy : Type 0 where
-  pub people : ℕ
-  pub required : List ℕ
-  pub forbidden : List ℕ
 
 -- "The cards of one deal share policy, deal number, secret and randomness."
 pub record Deal : Type 0 where
@@ -22,18 +17,12 @@ pub record Deal : Type 0 where
   pub random : List ℕ
 
 -- the deal of a call's arguments
-abbrev pub dealOf : ℕ → List ℕ → List ℕ → ℕ → List ℕ → List ℕ → Deal
-dealOf people required forbidden number secret random =
-    record {
-      policy = record { people = people; required = required; forbidden = forbidden };
-      number = number;
-      secret = secret;
-      random = random;
-    }
+abbrev pub dealFrom : Policy → ℕ → List ℕ → List ℕ → Deal
+dealFrom policy number secret random = record { policy = policy; number = number; secret = secret; random = random }
 
 -- the same policy and deal number with another secret and other randomness
 abbrev pub again : Deal → List ℕ → List ℕ → Deal
-again d secret random = record { policy = d .policy; number = d .number; secret = secret; random = random }
+again d secret random = dealFrom (d .policy) (d .number) secret random
 
 -- k, the pieces of the deal
 unfoldable pub pieceCount : Deal → ℕ

@@ -58,7 +58,7 @@ blockCount d holder = length (held d holder)
 -- 1 to 12, in their order: for one holder's card into a lent output of so many bytes
 unfoldable pub dealLines : Deal → ℕ → ℕ → List Line
 dealLines d holder room =
-    planLines (d .policy .people) (d .policy .required) (d .policy .forbidden)
+    planLines (d .policy)
     ++ (inputLines (d .policy .people) (pieceCount d) (d .number) holder (d .secret) (d .random) ++ noRoom (512 * blockCount d holder) (blockCount d holder) room ∷ [])
 
 -- what dealing answers: "Dealing returns the number of blocks"

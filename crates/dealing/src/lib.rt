@@ -9,7 +9,8 @@ ghost use Prim.Native.Nat.{_≤_};
 ghost use lib.ListN.{length};
 ghost use Rattle.answer.specs.Outcome.{outcome};
 ghost use Rattle.answer.specs.Lent.{left};
-ghost use Rattle.dealing.specs.Deal.{dealOf};
+ghost use Rattle.planning.specs.Policy.{policyOf};
+ghost use Rattle.dealing.specs.Deal.{dealFrom};
 ghost use Rattle.dealing.specs.Dealt.{dealing, dealtInto};
 ghost use Rattle.dealing.specs.Rows.{inputsOf, cardIn, inputsSay};
 
@@ -59,10 +60,10 @@ pub fn deal(
     out: &mut [u8],
 ) -> Answer
     ensures says { λ r.
-        let d = dealOf people (now (required .entry)) (now (forbidden .entry)) «deal_number» (now (secret .entry)) (now (random .entry)) in
+        let d = dealFrom (policyOf people (now (required .entry)) (now (forbidden .entry))) «deal_number» (now (secret .entry)) (now (random .entry)) in
         ⌜ outcome r ≡ dealing d holder (length (now (out .entry))) ⌝ }
     ensures leaves { λ r.
-        let d = dealOf people (now (required .entry)) (now (forbidden .entry)) «deal_number» (now (secret .entry)) (now (random .entry)) in
+        let d = dealFrom (policyOf people (now (required .entry)) (now (forbidden .entry))) «deal_number» (now (secret .entry)) (now (random .entry)) in
         ⌜ now (out .exit) ≡ dealtInto d holder (now (out .entry)) ⌝ }
 {
     let plan = planning::plan(people, required, forbidden);

@@ -18,6 +18,7 @@ use Rattle.answer.proofs.CheckLaws.{given, not-given, append-lines, never-both,
 use Rattle.answer.proofs.FirstLaws.{first-of, place-most, place-has}
 use Rattle.planning.specs.Sets.{inside}
 use Rattle.planning.specs.Groups.{authorised, groups}
+use Rattle.planning.specs.Policy.{Policy}
 use Rattle.planning.specs.Planned.{people, long, strangers, nobody, opens, aroundPlace, clashPlace, clash, wide, listLines, planLines, planned}
 use Rattle.planning.specs.Laws.{Listed, Suits, Clashes, ClashFamilies, ClashPlaces}
 use Rattle.answer.proofs.Truth.{decided, isn't, surely}
@@ -56,63 +57,63 @@ place-first test l t =
 first-as : {t u : ℕ → Bool} {i e f : ℕ} → ((k : ℕ) → t k ≡ u k) → IsFirst t i e f → IsFirst u i e f
 first-as {f = f} same h = record { from = h .from; to = h .to; has = sym (same f) ∙ h .has; least = λ k l m. sym (same k) ∙ h .least k l m }
 
-module _ (n : ℕ) (required forbidden : List ℕ) where
+module _ (p : Policy) where
   -- ---- CLASH
-  before-clash : Others (number Clash) (listLines n required forbidden)
+  before-clash : Others (number Clash) (listLines p)
   unfolding listLines people long strangers nobody opens
   before-clash = other refl (other refl (other refl (other refl (other refl (other refl (other refl none))))))
 
-  after-clash : Others (number Clash) (wide (groups n required) ∷ [])
+  after-clash : Others (number Clash) (wide (groups (p .people) (p .required)) ∷ [])
   unfolding wide
   after-clash = other refl none
 
   -- the answer is CLASH: its line is given, with its places
-  clash-speaks : (a b : ℕ) → planned n required forbidden ≡ refused (number Clash) a b
-      → Passed (listLines n required forbidden) × (clash required forbidden .given ≡ true)
-      × (clashPlace required forbidden ≡ a) × (aroundPlace forbidden (at required (clashPlace required forbidden)) ≡ b)
+  clash-speaks : (a b : ℕ) → planned p ≡ refused (number Clash) a b
+      → Passed (listLines p) × (clash (p .required) (p .forbidden) .given ≡ true)
+      × (clashPlace (p .required) (p .forbidden) ≡ a) × (aroundPlace (p .forbidden) (at (p .required) (clashPlace (p .required) (p .forbidden))) ≡ b)
   unfolding planned planLines clash firstFail
   clash-speaks a b e =
-      let r = after-others (afterLists n required forbidden) (end n required) a b before-clash e in
+      let r = after-others (afterLists p) (end p) a b before-clash e in
       ⊎-elim
-      (λ (t : clash required forbidden .given ≡ true).
-      let s = sym (given (clash required forbidden) (wide (groups n required) ∷ []) (end n required) t) ∙ r .1 in
+      (λ (t : clash (p .required) (p .forbidden) .given ≡ true).
+      let s = sym (given (clash (p .required) (p .forbidden)) (wide (groups (p .people) (p .required)) ∷ []) (end p) t) ∙ r .1 in
       (r .0, t, cc, cc))
-      (λ (f : clash required forbidden .given ≡ false).
-      let s = sym (not-given (clash required forbidden) (wide (groups n required) ∷ []) (end n required) f) ∙ r .1 in
-      never-both (after-others [] (end n required) a b after-clash s .1))
-      (decided (clash required forbidden .given))
+      (λ (f : clash (p .required) (p .forbidden) .given ≡ false).
+      let s = sym (not-given (clash (p .required) (p .forbidden)) (wide (groups (p .people) (p .required)) ∷ []) (end p) f) ∙ r .1 in
+      never-both (after-others [] (end p) a b after-clash s .1))
+      (decided (clash (p .required) (p .forbidden) .given))
 
   -- past refusals 1 to 5
-  past-lists : Passed (listLines n required forbidden) → planned n required forbidden ≡ firstFail (afterLists n required forbidden) (end n required)
+  past-lists : Passed (listLines p) → planned p ≡ firstFail (afterLists p) (end p)
   unfolding planned planLines
-  past-lists p = append-lines (listLines n required forbidden) (afterLists n required forbidden) (end n required) ∙ passed-done (listLines n required forbidden) (firstFail (afterLists n required forbidden) (end n required)) p
+  past-lists h = append-lines (listLines p) (afterLists p) (end p) ∙ passed-done (listLines p) (firstFail (afterLists p) (end p)) h
 
-  clash-given : Passed (listLines n required forbidden) → clash required forbidden .given ≡ true → Clashes n required forbidden
+  clash-given : Passed (listLines p) → clash (p .required) (p .forbidden) .given ≡ true → Clashes p
   unfolding clash
-  clash-given p t = (_, _, past-lists p ∙ given (clash required forbidden) (wide (groups n required) ∷ []) (end n required) t)
+  clash-given h t = (_, _, past-lists h ∙ given (clash (p .required) (p .forbidden)) (wide (groups (p .people) (p .required)) ∷ []) (end p) t)
 
 pub clash-places : ClashPlaces
 unfolding clash clashPlace
-clash-places n required forbidden a b e =
-    let r = clash-speaks n required forbidden a b e in
-    let place = clashPlace required forbidden in
-    let first = place-first (λ s. found (aroundPlace forbidden s)) required (r .1) in
-    let lowest = first-as (λ k. sym (some-place (inside (at required k)) forbidden)) first in
-    let around = place-first (inside (at required place)) forbidden (first .has) in
+clash-places p a b e =
+    let r = clash-speaks p a b e in
+    let place = clashPlace (p .required) (p .forbidden) in
+    let first = place-first (λ s. found (aroundPlace (p .forbidden) s)) (p .required) (r .1) in
+    let lowest = first-as (λ k. sym (some-place (inside (at (p .required) k)) (p .forbidden))) first in
+    let around = place-first (inside (at (p .required) place)) (p .forbidden) (first .has) in
     rw (← r .3, ← r .2) (lowest, around)
 
 pub clash-families : ClashFamilies
-clash-families n required forbidden p = (never-suits, suits, ((λ c F. never-suits c (λ g. F g ≡ true)), given-so))
+clash-families p h = (never-suits, suits, ((λ c F. never-suits c (λ g. F g ≡ true)), given-so))
   where
-    l : Listed n required forbidden
-    l = listed n required forbidden p
+    l : Listed p
+    l = listed p h
 
-    never-suits : Clashes n required forbidden → (F : ℕ → Type 0) → Suits n required forbidden F → ⊥
-    never-suits c = clash-none n required forbidden l (clash-speaks n required forbidden (c .0) (c .1) (c .2) .1)
+    never-suits : Clashes p → (F : ℕ → Type 0) → Suits p F → ⊥
+    never-suits c = clash-none p l (clash-speaks p (c .0) (c .1) (c .2) .1)
 
-    suits : (Clashes n required forbidden → ⊥) → (F : ℕ → Bool) × Suits n required forbidden (λ g. F g ≡ true)
-    suits un = (authorised required, authorised-suits n required forbidden l (isn't (λ t. un (clash-given n required forbidden p t))))
+    suits : (Clashes p → ⊥) → (F : ℕ → Bool) × Suits p (λ g. F g ≡ true)
+    suits un = (authorised (p .required), authorised-suits p l (isn't (λ t. un (clash-given p h t))))
 
-    given-so : ((F : ℕ → Bool) → Suits n required forbidden (λ g. F g ≡ true) → ⊥) → Clashes n required forbidden
+    given-so : ((F : ℕ → Bool) → Suits p (λ g. F g ≡ true) → ⊥) → Clashes p
     given-so un =
-        clash-given n required forbidden p (surely (λ f. un (authorised required) (authorised-suits n required forbidden l f)))
+        clash-given p h (surely (λ f. un (authorised (p .required)) (authorised-suits p l f)))

@@ -62,8 +62,8 @@ abbrev made : Answer → List (List Bool) → Plan
 made x t = record { answer = x; rows = t }
 
 pub plan-one : law.PlanOne
-plan-one n required forbidden p q h k =
-    let e : p .answer ≡ q .answer = outcome-one (p .answer) (q .answer) (h .says ∙ sym (k .says)) in
-    let f : p .rows ≡ q .rows = h .table ∙ sym (k .table) in
-    let g : made (p .answer) (p .rows) ≡ made (q .answer) (q .rows) = cc in
+plan-one p x y h k =
+    let e : x .answer ≡ y .answer = outcome-one (x .answer) (y .answer) (h .says ∙ sym (k .says)) in
+    let f : x .rows ≡ y .rows = h .table ∙ sym (k .table) in
+    let g : made (x .answer) (x .rows) ≡ made (y .answer) (y .rows) = cc in
     g

@@ -14,6 +14,7 @@ use Rattle.answer.specs.Checks.{Line, firstFail}
 use Rattle.answer.proofs.CheckLaws.{given, stops, goes-on, done-passed}
 use Rattle.planning.specs.declared.table.Plan.{Plan}
 use Rattle.planning.specs.Groups.{groups, pieceCount, rowsOf}
+use Rattle.planning.specs.Policy.{Policy}
 use Rattle.planning.specs.Planned.{clash, wide, listLines, planLines, planned, rowsFor, plannedRows}
 use Rattle.planning.specs.Flags.{filled, Filled}
 use Rattle.planning.specs.Laws.{Listed}
@@ -39,45 +40,45 @@ module _ {maximals : List ℕ} {p : Plan} where
 
 -- ---- the answer, check by check
 -- the lines after refusals 1 to 5
-abbrev pub afterLists : ℕ → List ℕ → List ℕ → List Line
-afterLists n required forbidden = clash required forbidden ∷ wide (groups n required) ∷ []
+abbrev pub afterLists : Policy → List Line
+afterLists p = clash (p .required) (p .forbidden) ∷ wide (groups (p .people) (p .required)) ∷ []
 
 -- the answer where no line is given
-abbrev pub end : ℕ → List ℕ → Outcome ℕ
-end n required = done (pieceCount n required)
+abbrev pub end : Policy → Outcome ℕ
+end p = done (pieceCount (p .people) (p .required))
 
-module _ (n : ℕ) (required forbidden : List ℕ) where
+module _ (p : Policy) where
   -- refusals 1 to 5 and CLASH have not been given
   pub record Clear : Type 0 where
-    pub listed-so : Listed n required forbidden
-    pub then : planned n required forbidden ≡ filled (groups n required)
+    pub listed-so : Listed p
+    pub then : planned p ≡ filled (groups (p .people) (p .required))
 
-  pub lists-refuse : {x : Answer} {r : Refusal} → outcome x ≡ firstFail (listLines n required forbidden) (done 0) → x ≡ Refused r
-      → outcome (Refused r) ≡ planned n required forbidden
+  pub lists-refuse : {x : Answer} {r : Refusal} → outcome x ≡ firstFail (listLines p) (done 0) → x ≡ Refused r
+      → outcome (Refused r) ≡ planned p
   unfolding planned planLines
-  lists-refuse says q = stops (listLines n required forbidden) says (afterLists n required forbidden) (end n required) q
+  lists-refuse says q = stops (listLines p) says (afterLists p) (end p) q
 
-  pub clash-refuse : {x y : Answer} {u : ℕ} {r : Refusal} → outcome x ≡ firstFail (listLines n required forbidden) (done 0) → x ≡ Done u
-      → outcome y ≡ firstFail (clash required forbidden ∷ []) (done 0) → y ≡ Refused r → outcome (Refused r) ≡ planned n required forbidden
+  pub clash-refuse : {x y : Answer} {u : ℕ} {r : Refusal} → outcome x ≡ firstFail (listLines p) (done 0) → x ≡ Done u
+      → outcome y ≡ firstFail (clash (p .required) (p .forbidden) ∷ []) (done 0) → y ≡ Refused r → outcome (Refused r) ≡ planned p
   unfolding planned planLines
   clash-refuse says q says′ q′ =
-      stops (clash required forbidden ∷ []) says′ (wide (groups n required) ∷ []) (end n required) q′ ∙ sym (goes-on (listLines n required forbidden) says (afterLists n required forbidden) (end n required) q)
+      stops (clash (p .required) (p .forbidden) ∷ []) says′ (wide (groups (p .people) (p .required)) ∷ []) (end p) q′ ∙ sym (goes-on (listLines p) says (afterLists p) (end p) q)
 
-  pub clear : {x y : Answer} {u v : ℕ} → outcome x ≡ firstFail (listLines n required forbidden) (done 0) → x ≡ Done u
-      → outcome y ≡ firstFail (clash required forbidden ∷ []) (done 0) → y ≡ Done v → Clear
+  pub clear : {x y : Answer} {u v : ℕ} → outcome x ≡ firstFail (listLines p) (done 0) → x ≡ Done u
+      → outcome y ≡ firstFail (clash (p .required) (p .forbidden) ∷ []) (done 0) → y ≡ Done v → Clear
   unfolding planned planLines filled
   clear {u = u} says q says′ q′ = record {
-    listed-so = listed n required forbidden (done-passed (listLines n required forbidden) (done 0) u (sym says ∙ ap outcome q) .0);
-    then = goes-on (listLines n required forbidden) says (afterLists n required forbidden) (end n required) q ∙ goes-on (clash required forbidden ∷ []) says′ (wide (groups n required) ∷ []) (end n required) q′;
+    listed-so = listed p (done-passed (listLines p) (done 0) u (sym says ∙ ap outcome q) .0);
+    then = goes-on (listLines p) says (afterLists p) (end p) q ∙ goes-on (clash (p .required) (p .forbidden) ∷ []) says′ (wide (groups (p .people) (p .required)) ∷ []) (end p) q′;
   }
 
   -- ---- the plan
-  pub refused-plan : {p : Plan} {r : Refusal} → outcome (Refused r) ≡ planned n required forbidden → p .answer ≡ Refused r → p .rows ≡ rowsOf []
-      → (outcome (p .answer) ≡ planned n required forbidden) × (p .rows ≡ plannedRows n required forbidden)
+  pub refused-plan : {x : Plan} {r : Refusal} → outcome (Refused r) ≡ planned p → x .answer ≡ Refused r → x .rows ≡ rowsOf []
+      → (outcome (x .answer) ≡ planned p) × (x .rows ≡ plannedRows p)
   unfolding plannedRows
-  refused-plan h a t = (ap outcome a ∙ h, t ∙ ap (λ (o : Outcome ℕ). rowsFor o (groups n required)) h)
+  refused-plan h a t = (ap outcome a ∙ h, t ∙ ap (λ (o : Outcome ℕ). rowsFor o (groups (p .people) (p .required))) h)
 
-  pub filled-plan : {p : Plan} {maximals : List ℕ} → Clear → Filled maximals p → maximals ≡ groups n required
-      → (outcome (p .answer) ≡ planned n required forbidden) × (p .rows ≡ plannedRows n required forbidden)
+  pub filled-plan : {x : Plan} {maximals : List ℕ} → Clear → Filled maximals x → maximals ≡ groups (p .people) (p .required)
+      → (outcome (x .answer) ≡ planned p) × (x .rows ≡ plannedRows p)
   unfolding plannedRows
   filled-plan c h e = (h .says ∙ rw e (sym (c .then)), h .table ∙ rw (e, c .then))

@@ -1,5 +1,6 @@
 pub mod Sets
 pub mod Groups
+pub mod Policy
 pub mod Planned
 pub mod Flags
 pub mod Laws

@@ -10,6 +10,7 @@ use Rattle.answer.specs.Outcome.{Outcome, done, refused}
 use Rattle.answer.specs.Checks.{Line, line, firstFail}
 use Rattle.answer.specs.Places.{firstPlace, found, at}
 use Rattle.planning.specs.Sets.{inside, stranger}
+use Rattle.planning.specs.Policy.{Policy}
 use Rattle.planning.specs.Groups.{groups, pieceCount, rowsOf}
 
 -- 1 PEOPLE: "n is 0 or above 8"
@@ -51,17 +52,24 @@ unfoldable pub wide : List ℕ → Line
 wide maximals = line Wide (ltb 70 (length maximals)) 0 0
 
 -- refusals 1 to 5, in their order
-unfoldable pub listLines : ℕ → List ℕ → List ℕ → List Line
-listLines n required forbidden =
-    people n ∷ long 1 required ∷ long 2 forbidden ∷ strangers n 1 required ∷ strangers n 2 forbidden ∷ nobody required ∷ opens required ∷ []
+unfoldable pub listLines : Policy → List Line
+listLines p =
+    people (p .people)
+    ∷ long 1 (p .required)
+    ∷ long 2 (p .forbidden)
+    ∷ strangers (p .people) 1 (p .required)
+    ∷ strangers (p .people) 2 (p .forbidden)
+    ∷ nobody (p .required)
+    ∷ opens (p .required)
+    ∷ []
 
 -- "Planning checks 1 to 7."
-unfoldable pub planLines : ℕ → List ℕ → List ℕ → List Line
-planLines n required forbidden = listLines n required forbidden ++ clash required forbidden ∷ wide (groups n required) ∷ []
+unfoldable pub planLines : Policy → List Line
+planLines p = listLines p ++ clash (p .required) (p .forbidden) ∷ wide (groups (p .people) (p .required)) ∷ []
 
 -- what planning answers: the first refusal that is given, or k
-unfoldable pub planned : ℕ → List ℕ → List ℕ → Outcome ℕ
-planned n required forbidden = firstFail (planLines n required forbidden) (done (pieceCount n required))
+unfoldable pub planned : Policy → Outcome ℕ
+planned p = firstFail (planLines p) (done (pieceCount (p .people) (p .required)))
 
 -- "Rows past k are empty; a refused plan has only empty rows."
 abbrev pub rowsFor : Outcome ℕ → List ℕ → List (List Bool)
@@ -69,5 +77,5 @@ rowsFor (done k) maximals = rowsOf maximals
 rowsFor (refused m a b) maximals = rowsOf []
 
 -- the table of rows that goes with the answer
-unfoldable pub plannedRows : ℕ → List ℕ → List ℕ → List (List Bool)
-plannedRows n required forbidden = rowsFor (planned n required forbidden) (groups n required)
+unfoldable pub plannedRows : Policy → List (List Bool)
+plannedRows p = rowsFor (planned p) (groups (p .people) (p .required))

@@ -11,6 +11,7 @@ ghost use Rattle.answer.specs.Outcome.{outcome, done};
 ghost use Rattle.answer.specs.Checks.{firstFail};
 ghost use Rattle.answer.specs.Places.{firstPlace};
 ghost use Rattle.planning.specs.Sets.{stranger};
+ghost use Rattle.planning.specs.Policy.{policyOf};
 ghost use Rattle.planning.specs.Planned.{aroundPlace, clashPlace, clash, listLines};
 
 // The place of the first set that names a person above the number of people, or 0.
@@ -73,7 +74,7 @@ fn first_clash(required: &[u16], forbidden: &[u16]) -> usize
 
 // Refusals 1 to 5.
 pub fn check_lists(people: usize, required: &[u16], forbidden: &[u16]) -> Answer
-    ensures { λ r. ⌜ outcome r ≡ firstFail (listLines people (now (required .entry)) (now (forbidden .entry))) (done 0) ⌝ }
+    ensures { λ r. ⌜ outcome r ≡ firstFail (listLines (policyOf people (now (required .entry)) (now (forbidden .entry)))) (done 0) ⌝ }
 {
     if people == 0 {
         return answer::refuse(Kind::People, 0, 0);

@@ -19,8 +19,9 @@ use Rattle.policy.specs.declared.Found.{Found}
 use Rattle.policy.specs.declared.Found.the-variants.{Number, Nothing}
 use Rattle.policy.specs.declared.Said.{Said}
 use Rattle.policy.specs.declared.Said.the-variants.{Need, Bar, Bad}
+use Rattle.planning.specs.Policy.{Policy}
 use Rattle.policy.specs.Policy.{inFront, lines, begins, peopleWord, pickFound, oneDigit, peopleIn, needWord, barWord, members, pickSaid, needs, bars, lineSays}
-use Rattle.policy.specs.Policy.{Policy, isBad, firstBad, requiredIn, forbiddenIn, readSets, readLines, behindFirst, readPolicy}
+use Rattle.policy.specs.Policy.{isBad, firstBad, requiredIn, forbiddenIn, readSets, readLines, behindFirst, readPolicy}
 use Rattle.policy.specs.Laws.{Entry, need, bar, setOf, writtenLine, writtenLines, writtenText, requiredAmong, forbiddenAmong, Named, Written}
 use Rattle.policy.proofs.MembersLaws.{no-number, members-shape}
 

@@ -20,6 +20,7 @@ use Rattle.policy.specs.declared.Found.{Found}
 use Rattle.policy.specs.declared.Found.the-variants.{Number, Nothing}
 use Rattle.policy.specs.declared.Said.{Said}
 use Rattle.policy.specs.declared.Said.the-variants.{Need, Bar}
+use Rattle.planning.specs.Policy.{policyOf}
 use Rattle.policy.specs.Policy.{inFront, lines, begins, peopleWord, oneDigit, peopleIn, members, needs, bars, lineSays}
 use Rattle.policy.specs.Policy.{firstBad, requiredIn, forbiddenIn, readSets, readLines, readPolicy}
 use Rattle.policy.specs.Laws.{Entry, need, bar, setOf, peopleOf, writtenLine, writtenLines, writtenText, requiredAmong, forbiddenAmong, Named}
@@ -152,7 +153,7 @@ forbidden-again (bar s ∷ es) n =
 
 -- ---- the whole text
 pub reads-written : (n : ℕ) (es : List Entry) → n ≤ 9 → Named es → length (writtenText n es) ≤ 16384
-    → readPolicy (writtenText n es) ≡ done (record { people = n; required = requiredAmong es; forbidden = forbiddenAmong es })
+    → readPolicy (writtenText n es) ≡ done (policyOf n (requiredAmong es) (forbiddenAmong es))
 unfolding readPolicy firstFail writtenText readLines readSets
 reads-written n es h m l =
     let f = first-right n h in

@@ -7,10 +7,11 @@ use lib.ListN.{length}
 use Rattle.answer.specs.Outcome.{Outcome, done}
 use Rattle.answer.specs.Places.{those}
 use Rattle.planning.specs.Sets.{member}
+use Rattle.planning.specs.Policy.{Policy, policyOf}
 use Rattle.print.specs.Decimal.{digit}
 use Rattle.print.specs.Lines.{spacedAll, feed}
 use Rattle.policy.specs.declared.PolicyText.{PolicyText}
-use Rattle.policy.specs.Policy.{peopleWord, needWord, barWord, Policy, readPolicy, Holds}
+use Rattle.policy.specs.Policy.{peopleWord, needWord, barWord, readPolicy, Holds}
 
 -- ---- writing a policy text
 -- a line behind the first, to be written: a required set or a forbidden one
@@ -64,7 +65,7 @@ pub record Named (es : List Entry) : Type 0 where
 -- Reading the text written from lists gives the lists again, whatever the order of its lines.
 abbrev pub ReadsWritten : Type 0
 ReadsWritten = (n : ℕ) (es : List Entry) → n ≤ 9 → Named es → length (writtenText n es) ≤ 16384
-    → readPolicy (writtenText n es) ≡ done (record { people = n; required = requiredAmong es; forbidden = forbiddenAmong es })
+    → readPolicy (writtenText n es) ≡ done (policyOf n (requiredAmong es) (forbiddenAmong es))
 
 -- ---- one answer
 -- Two values that hold the same outcome are equal: the promise of reading leaves one value for every text.

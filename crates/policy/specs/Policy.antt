@@ -11,6 +11,7 @@ use Rattle.answer.specs.Outcome.{Outcome, done, refused, number, outcome}
 use Rattle.answer.specs.Checks.{line, firstFail}
 use Rattle.answer.specs.Places.{found}
 use Rattle.planning.specs.Sets.{worth}
+use Rattle.planning.specs.Policy.{Policy, policyOf}
 use Rattle.policy.specs.declared.Found.{Found}
 use Rattle.policy.specs.declared.Found.the-variants.{Number, Nothing}
 use Rattle.policy.specs.declared.Said.{Said}
@@ -99,12 +100,6 @@ lineSays line =
     (pickSaid (begins barWord line) (bars (members 48 0 (drop 3 line))) Bad)
 
 -- ---- the text
--- what a readable text gives
-pub record Policy : Type 0 where
-  pub people : ℕ
-  pub required : List ℕ
-  pub forbidden : List ℕ
-
 -- the line is bad
 abbrev pub isBad : Said → Bool
 isBad (Need s) = false
@@ -142,7 +137,7 @@ forbiddenIn (l ∷ ls) = addBar (lineSays l) (forbiddenIn ls)
 unfoldable pub readSets : ℕ → List (List ℕ) → Outcome Policy
 readSets people ls =
     firstFail (line Text (found (firstBad 2 ls)) (firstBad 2 ls) 0 ∷ [])
-    (done (record { people = people; required = requiredIn ls; forbidden = forbiddenIn ls }))
+    (done (policyOf people (requiredIn ls) (forbiddenIn ls)))
 
 -- the lines behind a first line that gives the people; one that does not is bad
 abbrev pub behindFirst : Found → List (List ℕ) → Outcome Policy

@@ -13,6 +13,7 @@ use Rattle.answer.specs.Places.{those}
 use Rattle.answer.proofs.ThoseLaws.{at-in, in-those, those-few, those-same}
 use Rattle.planning.specs.Sets.{member}
 use Rattle.planning.specs.Groups.{groupOf, holds, marked}
+use Rattle.planning.specs.Policy.{Policy}
 use Rattle.planning.specs.Planned.{planned, plannedRows}
 use Rattle.planning.proofs.Laws.{accepted-listed, some-piece, rows-mean}
 use Rattle.print.specs.Lines.{spaced, spacedAll, feed}
@@ -128,17 +129,17 @@ twice true = refl
 twice false = refl
 
 -- ---- the table of an accepted policy gives its listing
-pub table-listing : (n : ℕ) (required forbidden : List ℕ) (k : ℕ) → planned n required forbidden ≡ done k
-    → let rows = plannedRows n required forbidden in
-    listingBy (marked rows) (λ i j. not (marked rows j i)) n k ≡ listing n required
+pub table-listing : (p : Policy) (k : ℕ) → planned p ≡ done k
+    → let rows = plannedRows p in
+    listingBy (marked rows) (λ i j. not (marked rows j i)) (p .people) k ≡ listing (p .people) (p .required)
 unfolding listing holds
-table-listing n required forbidden k e =
-    let rows = plannedRows n required forbidden in
-    let few = accepted-listed n required forbidden k e .few in
-    let same : (i j : ℕ) → 1 ≤ i → i ≤ n → 1 ≤ j → j ≤ k → marked rows j i ≡ member i (groupOf n required j) =
-    λ i j l m p q. rows-mean n required forbidden k e i j l (omega arith) p .0 q
+table-listing p k e =
+    let rows = plannedRows p in
+    let few = accepted-listed p k e .few in
+    let same : (i j : ℕ) → 1 ≤ i → i ≤ p .people → 1 ≤ j → j ≤ k → marked rows j i ≡ member i (groupOf (p .people) (p .required) j) =
+    λ i j l m a b. rows-mean p k e i j l (omega arith) a .0 b
     in
-    same-listing (marked rows) (λ i j. not (marked rows j i)) (λ j i. not (holds n required i j)) (holds n required) n k
-    (λ i j l m p q. same i j l m p q ∙ twice (member i (groupOf n required j)))
-    (λ i j l m p q. ap not (same i j l m p q))
-    ∙ ap (λ (c : ℕ). listingBy (λ j i. not (holds n required i j)) (holds n required) n c) (some-piece n required forbidden k e .0)
+    same-listing (marked rows) (λ i j. not (marked rows j i)) (λ j i. not (holds (p .people) (p .required) i j)) (holds (p .people) (p .required)) (p .people) k
+    (λ i j l m a b. same i j l m a b ∙ twice (member i (groupOf (p .people) (p .required) j)))
+    (λ i j l m a b. ap not (same i j l m a b))
+    ∙ ap (λ (c : ℕ). listingBy (λ j i. not (holds (p .people) (p .required) i j)) (holds (p .people) (p .required)) (p .people) c) (some-piece p k e .0)

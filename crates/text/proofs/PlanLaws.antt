@@ -14,12 +14,13 @@ use Rattle.answer.specs.declared.Answer.the-variants.{Done, Refused}
 use Rattle.answer.specs.Outcome.{Outcome, done, refused, number, outcome}
 use Rattle.answer.specs.Checks.{pick, firstFail}
 use Rattle.answer.proofs.CheckLaws.{never-both}
+use Rattle.planning.specs.Policy.{Policy, policyOf}
 use Rattle.planning.specs.Planned.{people, long, listLines, planLines, planned}
 use Rattle.print.specs.Lines.{refusedLine}
 use Rattle.print.proofs.DecimalLaws.{below}
 use Rattle.policy.specs.declared.Sets.{Sets}
 use Rattle.policy.specs.declared.PolicyText.{PolicyText}
-use Rattle.policy.specs.Policy.{Policy, peopleOf, Keeps, Holds}
+use Rattle.policy.specs.Policy.{peopleOf, Keeps, Holds}
 use Rattle.text.specs.Listing.{listing, answered, listedPlan, listedPolicy}
 
 -- ---- the sets that were kept
@@ -51,53 +52,53 @@ module _ (n : ℕ) where
       go true = refl
       go false = refl
 
-  long-required : (r f : List ℕ) → 256 < length r → planned n r f ≡ tooLong 1
+  long-required : (r f : List ℕ) → 256 < length r → planned (policyOf n r f) ≡ tooLong 1
   unfolding planned planLines listLines long firstFail people
   long-required r f h = simp (lt-ltb 256 (length r) h)
 
-  long-forbidden : (r f : List ℕ) → length r ≤ 256 → 256 < length f → planned n r f ≡ tooLong 2
+  long-forbidden : (r f : List ℕ) → length r ≤ 256 → 256 < length f → planned (policyOf n r f) ≡ tooLong 2
   unfolding planned planLines listLines long firstFail people
   long-forbidden r f h k = simp (le-ltb 256 (length r) h, lt-ltb 256 (length f) k)
 
-  first-sets : (r f : List ℕ) → listedPlan n (take 257 r) (take 257 f) ≡ listedPlan n r f
+  first-sets : (r f : List ℕ) → listedPlan (policyOf n (take 257 r) (take 257 f)) ≡ listedPlan (policyOf n r f)
   unfolding listedPlan
   first-sets r f =
       ⊎-elim
       (λ (p : 256 < length r).
       let l : 256 < length (take 257 r) = omega (arith, length-take-le 257 r p) in
-      let x : planned n (take 257 r) (take 257 f) ≡ tooLong 1 = long-required (take 257 r) (take 257 f) l in
+      let x : planned (policyOf n (take 257 r) (take 257 f)) ≡ tooLong 1 = long-required (take 257 r) (take 257 f) l in
       ap (λ (o : Outcome ℕ). answered o (listing n (take 257 r))) x ∙ too-long 1 (listing n (take 257 r)) (listing n r)
       ∙ sym (ap (λ (o : Outcome ℕ). answered o (listing n r)) (long-required r f p)))
       (λ (p : length r ≤ 256).
       let all : take 257 r ≡ r = take-all 257 r (omega arith) in
-      ap (λ (t : List ℕ). answered (planned n t (take 257 f)) (listing n t)) all
+      ap (λ (t : List ℕ). answered (planned (policyOf n t (take 257 f))) (listing n t)) all
       ∙ ⊎-elim
       (λ (q : 256 < length f).
       let l : 256 < length (take 257 f) = omega (arith, length-take-le 257 f q) in
       ap (λ (o : Outcome ℕ). answered o (listing n r)) (long-forbidden r (take 257 f) p l ∙ sym (long-forbidden r f p q)))
-      (λ (q : length f ≤ 256). ap (λ (t : List ℕ). answered (planned n r t) (listing n r)) (take-all 257 f (omega arith)))
+      (λ (q : length f ≤ 256). ap (λ (t : List ℕ). answered (planned (policyOf n r t)) (listing n r)) (take-all 257 f (omega arith)))
       (below 256 (length f)))
       (below 256 (length r))
 
 -- ---- what is printed, by planning's answer
-pub plan-done : (n k : ℕ) (r f : List ℕ) → planned n r f ≡ done k → listedPlan n r f ≡ listing n r
+pub plan-done : (p : Policy) (k : ℕ) → planned p ≡ done k → listedPlan p ≡ listing (p .people) (p .required)
 unfolding listedPlan
-plan-done n k r f e = ap (λ (o : Outcome ℕ). answered o (listing n r)) e
+plan-done p k e = ap (λ (o : Outcome ℕ). answered o (listing (p .people) (p .required))) e
 
-pub plan-refused : (n m a b : ℕ) (r f : List ℕ) → planned n r f ≡ refused m a b → listedPlan n r f ≡ refusedLine m a b
+pub plan-refused : (p : Policy) (m a b : ℕ) → planned p ≡ refused m a b → listedPlan p ≡ refusedLine m a b
 unfolding listedPlan
-plan-refused n m a b r f e = ap (λ (o : Outcome ℕ). answered o (listing n r)) e
+plan-refused p m a b e = ap (λ (o : Outcome ℕ). answered o (listing (p .people) (p .required))) e
 
 -- ---- what is printed, by the answer of a text that was read
 done-by : (o : Outcome Policy) (held : PolicyText) (n : ℕ) → Holds o held → done n ≡ peopleOf o
-    → listedPolicy o ≡ listedPlan n (take (held .required .count) (held .required .sets)) (take (held .forbidden .count) (held .forbidden .sets))
+    → listedPolicy o ≡ listedPlan (policyOf n (take (held .required .count) (held .required .sets)) (take (held .forbidden .count) (held .forbidden .sets)))
 done-by (done p) held n h e =
     let same : p .people ≡ n = cc in
-    rw same (sym (ap₂ (listedPlan n) (kept-sets (h .required)) (kept-sets (h .forbidden)) ∙ first-sets n (p .required) (p .forbidden)))
+    rw same (sym (ap₂ (λ (r f : List ℕ). listedPlan (policyOf n r f)) (kept-sets (h .required)) (kept-sets (h .forbidden)) ∙ first-sets n (p .required) (p .forbidden)))
 done-by (refused m a b) held n h e = never-both e
 
 pub read-done : {o : Outcome Policy} {held : PolicyText} (n : ℕ) → Holds o held → held .answer ≡ Done n
-    → listedPolicy o ≡ listedPlan n (take (held .required .count) (held .required .sets)) (take (held .forbidden .count) (held .forbidden .sets))
+    → listedPolicy o ≡ listedPlan (policyOf n (take (held .required .count) (held .required .sets)) (take (held .forbidden .count) (held .forbidden .sets)))
 read-done {o} {held} n h e = done-by o held n h (sym (ap outcome e) ∙ h .says)
 
 refused-by : (o : Outcome Policy) (m a b : ℕ) → refused m a b ≡ peopleOf o → listedPolicy o ≡ refusedLine m a b

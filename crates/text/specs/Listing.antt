@@ -6,9 +6,10 @@ use Prim.Native.Nat.{ℕ, zero, suc}
 use Rattle.answer.specs.Outcome.{Outcome, done, refused}
 use Rattle.answer.specs.Places.{those}
 use Rattle.planning.specs.Groups.{pieceCount, holds}
+use Rattle.planning.specs.Policy.{Policy}
 use Rattle.planning.specs.Planned.{planned}
 use Rattle.print.specs.Lines.{spaced, spacedAll, feed, refusedLine}
-use Rattle.policy.specs.Policy.{Policy, readPolicy}
+use Rattle.policy.specs.Policy.{readPolicy}
 
 -- a word, a number, and how the line goes on
 unfoldable pub label : List ℕ → ℕ → List ℕ → List ℕ
@@ -69,13 +70,13 @@ abbrev pub answered : Outcome ℕ → List ℕ → List ℕ
 answered (done k) lines = lines
 answered (refused m a b) lines = refusedLine m a b
 
--- what is printed for lists
-unfoldable pub listedPlan : ℕ → List ℕ → List ℕ → List ℕ
-listedPlan n required forbidden = answered (planned n required forbidden) (listing n required)
+-- what is printed for a policy
+unfoldable pub listedPlan : Policy → List ℕ
+listedPlan p = answered (planned p) (listing (p .people) (p .required))
 
 -- "TEXT .. comes before 1 to 7"
 abbrev pub listedPolicy : Outcome Policy → List ℕ
-listedPolicy (done p) = listedPlan (p .people) (p .required) (p .forbidden)
+listedPolicy (done p) = listedPlan p
 listedPolicy (refused m a b) = refusedLine m a b
 
 -- what the listing program prints for a text

@@ -6,6 +6,7 @@ ghost use Prim.Native.Nat.{_-_, _≤_, _<_};
 ghost use lib.ListN.{getD};
 ghost use Rattle.answer.specs.Places.{those};
 ghost use Rattle.planning.specs.Groups.{marked};
+ghost use Rattle.planning.specs.Policy.{policyOf};
 ghost use Rattle.print.specs.Written.{Room, Writes, Prints};
 ghost use Rattle.print.specs.Lines.{spacedAll};
 ghost use Rattle.text.specs.Listing.{label, firstLine, pieceLine, holderLine, rising, listingBy, listedPlan, listed};
@@ -153,7 +154,7 @@ fn write_listing(out: &mut [u8], people: usize, k: usize, rows: &[[bool; 8]; 70]
 fn list_plan(out: &mut [u8; 4113], people: usize, required: &[u16], forbidden: &[u16]) -> usize
     ensures { λ r.
         ⌜
-        Prints (listedPlan people (now (required .entry)) (now (forbidden .entry))) (now (out .entry)) (now (out .exit)) r
+        Prints (listedPlan (policyOf people (now (required .entry)) (now (forbidden .entry)))) (now (out .entry)) (now (out .exit)) r
         ⌝ }
 {
     let plan = planning::plan(people, required, forbidden);

@@ -18,6 +18,7 @@ use Rattle.answer.specs.Places.{those}
 use Rattle.answer.proofs.ThoseLaws.{in-those, those-all}
 use Rattle.planning.specs.Sets.{member, marks}
 use Rattle.planning.specs.Groups.{maximalBy, groupsBy, groups, authorised, rowsOf}
+use Rattle.planning.specs.Policy.{Policy}
 use Rattle.planning.specs.Planned.{planned, plannedRows, rowsFor}
 use Rattle.planning.proofs.Laws.{accepted-listed, some-piece}
 use Rattle.unit.specs.Said.{numberOf}
@@ -38,23 +39,23 @@ numbers : (l : List ℕ) → ((g : ℕ) → List·Memᴰ g l → g < 256) → ma
 numbers [] h = refl
 numbers (g ∷ l) h = ap₂ (λ (x : ℕ) (y : List ℕ). x ∷ y) (number-marks g (h g (List·Memᴰ·head refl))) (numbers l (λ s m. h s (List·Memᴰ·tail m)))
 
-pub rows-numbers : (n : ℕ) (required forbidden : List ℕ) (k : ℕ) → planned n required forbidden ≡ done k
-    → map numberOf (take k (plannedRows n required forbidden)) ≡ groups n required
+pub rows-numbers : (p : Policy) (k : ℕ) → planned p ≡ done k
+    → map numberOf (take k (plannedRows p)) ≡ groups (p .people) (p .required)
 unfolding plannedRows rowsOf groupsBy
-rows-numbers n required forbidden k e =
-    let l = groups n required in
-    let few = accepted-listed n required forbidden k e .few in
-    let count : length (map marks l) ≡ k = length-map l marks ∙ sym (some-piece n required forbidden k e .0) in
-    let most : 2 ^ n ≤ 2 ^ 8 = pow-mono few in
+rows-numbers p k e =
+    let l = groups (p .people) (p .required) in
+    let few = accepted-listed p k e .few in
+    let count : length (map marks l) ≡ k = length-map l marks ∙ sym (some-piece p k e .0) in
+    let most : 2 ^ p .people ≤ 2 ^ 8 = pow-mono few in
     ap (λ o. map numberOf (take k (rowsFor o l))) e
     ∙ ap (map numberOf) (take-at (map marks l) (replicate (70 - length l) (marks 0)) k count)
-    ∙ numbers l (λ g m. omega (arith, in-those (maximalBy (authorised required) n) 0 (2 ^ n) g m .1))
+    ∙ numbers l (λ g m. omega (arith, in-those (maximalBy (authorised (p .required)) (p .people)) 0 (2 ^ p .people) g m .1))
 
-pub rows-seventy : (n : ℕ) (required forbidden : List ℕ) (k : ℕ) → planned n required forbidden ≡ done k → length (plannedRows n required forbidden) ≡ 70
+pub rows-seventy : (p : Policy) (k : ℕ) → planned p ≡ done k → length (plannedRows p) ≡ 70
 unfolding plannedRows rowsOf
-rows-seventy n required forbidden k e =
-    let l = groups n required in
-    let s = some-piece n required forbidden k e in
+rows-seventy p k e =
+    let l = groups (p .people) (p .required) in
+    let s = some-piece p k e in
     ap (λ o. length (rowsFor o l)) e
     ∙ omega (arith, length-append (map marks l) (replicate (70 - length l) (marks 0)), length-map l marks, length-replicate (70 - length l) (marks 0), s .0, s .2)
 

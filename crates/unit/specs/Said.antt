@@ -7,6 +7,7 @@ use lib.ListN.{getD}
 use Rattle.answer.specs.Outcome.{Outcome, done, refused}
 use Rattle.answer.specs.Lent.{left}
 use Rattle.planning.specs.Groups.{groups}
+use Rattle.planning.specs.Policy.{Policy}
 use Rattle.planning.specs.Planned.{planned}
 use Rattle.block.specs.Layout.{headerOf}
 use Rattle.block.specs.Open.{opening}
@@ -29,8 +30,8 @@ numberOf row =
     + cond (getD row 4 false) 16 0 + cond (getD row 5 false) 32 0 + cond (getD row 6 false) 64 0 + cond (getD row 7 false) 128 0
 
 -- the group of each piece over the front of what was lent; refused, nothing changes
-abbrev pub groupsInto : ℕ → List ℕ → List ℕ → List ℕ → List ℕ
-groupsInto people required forbidden old = left (planned people required forbidden) (groups people required) old
+abbrev pub groupsInto : Policy → List ℕ → List ℕ
+groupsInto p old = left (planned p) (groups (p .people) (p .required)) old
 
 -- words 1 to 7 in the seven places that were lent; refused, nothing changes
 abbrev pub headInto : List ℕ → List ℕ → List ℕ

@@ -9,9 +9,10 @@ ghost use Prim.Native.Nat.{_≤_};
 ghost use lib.ListN.{length, take};
 ghost use Rattle.answer.specs.Outcome.{outcome};
 ghost use Rattle.answer.specs.Lent.{over};
+ghost use Rattle.planning.specs.Policy.{policyOf};
 ghost use Rattle.planning.specs.Planned.{planned};
 ghost use Rattle.block.specs.Open.{opening, wordsOf};
-ghost use Rattle.dealing.specs.Deal.{dealOf};
+ghost use Rattle.dealing.specs.Deal.{dealFrom};
 ghost use Rattle.dealing.specs.Dealt.{dealing, dealtInto};
 ghost use Rattle.joining.specs.Joined.{joining};
 ghost use Rattle.joining.specs.Secret.{joinedInto};
@@ -87,8 +88,8 @@ pub extern "C" fn titmeadow_plan(
     forbidden: &[u16],
     groups: &mut [u16; 70],
 ) -> Said
-    ensures says { λ r. ⌜ r ≡ said (planned people (now (required .entry)) (now (forbidden .entry))) ⌝ }
-    ensures leaves { λ r. ⌜ now (groups .exit) ≡ groupsInto people (now (required .entry)) (now (forbidden .entry)) (now (groups .entry)) ⌝ }
+    ensures says { λ r. ⌜ r ≡ said (planned (policyOf people (now (required .entry)) (now (forbidden .entry)))) ⌝ }
+    ensures leaves { λ r. ⌜ now (groups .exit) ≡ groupsInto (policyOf people (now (required .entry)) (now (forbidden .entry))) (now (groups .entry)) ⌝ }
 {
     let plan = planning::plan(people, required, forbidden);
     match planning::answer_of(plan) {
@@ -113,8 +114,8 @@ pub extern "C" fn titmeadow_deal(
     random: &[u16],
     card: &mut [u8],
 ) -> Said
-    ensures says { λ r. ⌜ r ≡ said (dealing (dealOf people (now (required .entry)) (now (forbidden .entry)) deal (now (secret .entry)) (now (random .entry))) holder (length (now (card .entry)))) ⌝ }
-    ensures leaves { λ r. ⌜ now (card .exit) ≡ dealtInto (dealOf people (now (required .entry)) (now (forbidden .entry)) deal (now (secret .entry)) (now (random .entry))) holder (now (card .entry)) ⌝ }
+    ensures says { λ r. ⌜ r ≡ said (dealing (dealFrom (policyOf people (now (required .entry)) (now (forbidden .entry))) deal (now (secret .entry)) (now (random .entry))) holder (length (now (card .entry)))) ⌝ }
+    ensures leaves { λ r. ⌜ now (card .exit) ≡ dealtInto (dealFrom (policyOf people (now (required .entry)) (now (forbidden .entry))) deal (now (secret .entry)) (now (random .entry))) holder (now (card .entry)) ⌝ }
 {
     said_of(dealing::deal(
         people,

@@ -3,8 +3,9 @@
 use mathlib.Core.Path.{_≡_, sym, ap, _∙_}
 use borrow.Author.Needs.{needs}
 use Rattle.answer.specs.Outcome.{outcome, done}
+use Rattle.planning.specs.Policy.{policyOf}
 use Rattle.planning.specs.Planned.{planned}
-use Rattle.dealing.specs.Deal.{dealOf}
+use Rattle.dealing.specs.Deal.{Deal, dealFrom}
 use Rattle.dealing.proofs.DealLaws.{refused-deal, refused-out, plan-gives, deals}
 use Rattle.dealing.proofs.deal.Statement.{statement}
 use Rattle.dealing.proofs.deal.Tie as tie
@@ -24,9 +25,15 @@ enum-known-k c = search needs
 rows-of-requires : tie.Need-rows-of-requires
 rows-of-requires c κs = search needs
 
+-- the deal that is asked for
+abbrev asked : tie.Start → Deal
+asked s =
+    dealFrom (policyOf (s .args .people) (s .args .required .now) (s .args .forbidden .now)) (s .args .deal-number) (s .args .secret .now)
+    (s .args .random .now)
+
 -- planning answered k
-accepted : (c : tie.After-known-told2) → let a = c .before .before .before .before .before .before .before .before .before .before .args in
-    planned (a .people) (a .required .now) (a .forbidden .now) ≡ done (c .before .k .given .0 .0)
+accepted : (c : tie.After-known-told2)
+    → planned (asked (c .before .before .before .before .before .before .before .before .before .before) .policy) ≡ done (c .before .k .given .0 .0)
 accepted c =
     let o = c .before .before .before in
     sym (o .before .plan .ensures .0) ∙ ap outcome (sym (o .answer-of .ensures) ∙ c .before .k .given .1)
@@ -34,17 +41,14 @@ accepted c =
 deal-planned-requires : tie.Need-deal-planned-requires
 deal-planned-requires c κs =
     let t = c .before .before .before in
-    let a = t .before .before .before .before .before .before .before .before .before .before .args in
-    plan-gives (a .people) (a .required .now) (a .forbidden .now) (a .deal-number) (a .secret .now) (a .random .now) (t .before .k .given .0 .0) (accepted t)
+    plan-gives (asked (t .before .before .before .before .before .before .before .before .before .before)) _ (accepted t)
 
 returns : tie.Need-returns
 returns c =
-    let m = c .before .before in
-    let o = m .before in
-    let a = o .before .before .before .before .before .before .before .args in
-    let d = dealOf (a .people) (a .required .now) (a .forbidden .now) (a .deal-number) (a .secret .now) (a .random .now) in
+    let o = c .before .before .before in
+    let s = o .before .before .before .before .before .before .before in
     let e = sym (o .before .plan .ensures .0) ∙ ap outcome (sym (o .answer-of .ensures) ∙ c .before .r .given .1) in
-    (refused-deal d _ _ _ e (a .holder) _, refused-out d _ _ _ e (a .holder) (a .out .now))
+    (refused-deal (asked s) _ _ _ e (s .args .holder) _, refused-out (asked s) _ _ _ e (s .args .holder) (s .args .out .now))
 
 same-length : tie.Need-same-length
 same-length c = search needs
@@ -55,9 +59,9 @@ returns-2 c =
     let r = c .before .before .before .before .before in
     let t = r .before in
     let p = t .before .before .before .before in
-    let a = p .before .before .before .before .before .before .args in
-    deals (a .people) (a .required .now) (a .forbidden .now) (a .deal-number) (a .secret .now) (a .random .now) (t .before .k .given .0 .0) (accepted t)
-    _ (r .rows-of .ensures ∙ p .plan .ensures .1) (a .holder) (outcome (w .result)) (a .out .now) _ (w .ensures .0) (w .ensures .1)
+    let s = p .before .before .before .before .before .before in
+    deals (asked s) _ (accepted t) _ (r .rows-of .ensures ∙ p .plan .ensures .1) (s .args .holder) (outcome (w .result)) (s .args .out .now) _
+    (w .ensures .0) (w .ensures .1)
 
 pub deal-spec : {M : Type 1} → statement M
 deal-spec =

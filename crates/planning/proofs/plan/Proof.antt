@@ -2,6 +2,7 @@
 -- Assumes nothing.
 use mathlib.Core.Path.{_∙_}
 use borrow.Author.Needs.{needs}
+use Rattle.planning.specs.Policy.{policyOf}
 use Rattle.planning.specs.Groups.{authorised}
 use Rattle.planning.specs.Flags.{flagged}
 use Rattle.planning.proofs.GroupLaws.{groups-same}
@@ -13,8 +14,8 @@ use Rattle.planning.proofs.plan.Tie as tie
 -- no refusal up to CLASH was given
 passed : (c : tie.After-enum-told2) →
     let s = c .before .before .before .before .before .before .before .before in
-    Clear (s .args .people) (s .args .required .now) (s .args .forbidden .now)
-passed c = clear _ _ _ (c .before .before .before .before .before .check-lists .ensures) (c .before .before .before .enum-told .given .1) (c .before .before .check-clash .ensures) (c .enum-told2 .given .1)
+    Clear (policyOf (s .args .people) (s .args .required .now) (s .args .forbidden .now))
+passed c = clear _ (c .before .before .before .before .before .check-lists .ensures) (c .before .before .before .enum-told .given .1) (c .before .before .check-clash .ensures) (c .enum-told2 .given .1)
 
 check-lists-requires : tie.Need-check-lists-requires
 check-lists-requires c κs = search needs
@@ -27,7 +28,7 @@ plan-of-requires c κs = search needs
 
 returns : tie.Need-returns
 returns c =
-    refused-plan _ _ _ (lists-refuse _ _ _ (c .before .before .before .before .check-lists .ensures) (c .before .before .r .given .1)) (c .plan-of .ensures .0) (c .plan-of .ensures .1 ∙ empty-rows)
+    refused-plan _ (lists-refuse _ (c .before .before .before .before .check-lists .ensures) (c .before .before .r .given .1)) (c .plan-of .ensures .0) (c .plan-of .ensures .1 ∙ empty-rows)
 
 enum-told : tie.Need-enum-told
 enum-told c = search needs
@@ -43,8 +44,8 @@ plan-of-requires-2 c κs = search needs
 
 returns-2 : tie.Need-returns-2
 returns-2 c =
-    refused-plan _ _ _
-    (clash-refuse _ _ _ (c .before .before .before .before .before .before .before .check-lists .ensures) (c .before .before .before .before .before .enum-told .given .1) (c .before .before .before .before .check-clash .ensures) (c .before .before .r2 .given .1))
+    refused-plan _
+    (clash-refuse _ (c .before .before .before .before .before .before .before .check-lists .ensures) (c .before .before .before .before .before .enum-told .given .1) (c .before .before .before .before .check-clash .ensures) (c .before .before .r2 .given .1))
     (c .plan-of2 .ensures .0) (c .plan-of2 .ensures .1 ∙ empty-rows)
 
 enum-told-2 : tie.Need-enum-told-2
@@ -59,7 +60,7 @@ fill-requires c κs = passed (c .before .before) .listed-so .few
 returns-3 : tie.Need-returns-3
 returns-3 c =
     let s = c .before .before .before .before .before .before .before .before .before .before .before in
-    filled-plan _ _ _ (passed (c .before .before .before)) (c .fill .ensures)
+    filled-plan _ (passed (c .before .before .before)) (c .fill .ensures)
     (groups-same (s .args .people) (flagged (c .before .before .flags .result)) (authorised (s .args .required .now)) (c .before .before .flags .ensures .right))
 
 pub plan-spec : {M : Type 1} → statement M

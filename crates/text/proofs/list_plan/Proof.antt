@@ -9,6 +9,7 @@ use denote.Ref.{now}
 use lib.ListN.{length}
 use Rattle.answer.specs.Outcome.{done, refused, number, outcome}
 use Rattle.planning.specs.Groups.{marked}
+use Rattle.planning.specs.Policy.{Policy, policyOf}
 use Rattle.planning.specs.Planned.{planned, plannedRows}
 use Rattle.planning.proofs.Laws.{accepted-listed, some-piece}
 use Rattle.print.specs.Written.{Room, Prints}
@@ -25,47 +26,41 @@ use Rattle.text.proofs.list_plan.Tie as tie
 abbrev start : tie.After-answer-of → tie.Start
 start c = c .before .before .before .before .before
 
--- what planning answers and the table that goes with it
+-- what planning is asked, what it answers, and the table that goes with it
 module _ (c : tie.After-answer-of) where
-  abbrev people : ℕ
-  people = start c .args .people
+  abbrev policy : Policy
+  policy = let a = start c .args in policyOf (a .people) (now (a .required)) (now (a .forbidden))
 
-  abbrev required : List ℕ
-  required = now (start c .args .required)
-
-  abbrev forbidden : List ℕ
-  forbidden = now (start c .args .forbidden)
-
-  says : outcome (c .answer-of .result) ≡ planned people required forbidden
+  says : outcome (c .answer-of .result) ≡ planned policy
   says = ap outcome (c .answer-of .ensures) ∙ c .before .before .plan .ensures .0
 
-  table : c .before .rows-of .result ≡ plannedRows people required forbidden
+  table : c .before .rows-of .result ≡ plannedRows policy
   table = c .before .rows-of .ensures ∙ c .before .before .plan .ensures .1
 
 -- accepted
 abbrev piece-count : tie.After-k → ℕ
 piece-count c = c .k .given .0 .0
 
-done-with : (c : tie.After-k) → let p = c .before .before in planned (people p) (required p) (forbidden p) ≡ done (piece-count c)
+done-with : (c : tie.After-k) → planned (policy (c .before .before)) ≡ done (piece-count c)
 done-with c = sym (says (c .before .before)) ∙ ap outcome (c .k .given .1)
 
-accepted-plan : (c : tie.After-k) → (people (c .before .before) ≤ 8) × (piece-count c ≤ 70)
+accepted-plan : (c : tie.After-k) → (policy (c .before .before) .people ≤ 8) × (piece-count c ≤ 70)
 accepted-plan c =
     let p = c .before .before in
     let e = done-with c in
-    (accepted-listed (people p) (required p) (forbidden p) (piece-count c) e .few, some-piece (people p) (required p) (forbidden p) (piece-count c) e .2)
+    (accepted-listed (policy p) (piece-count c) e .few, some-piece (policy p) (piece-count c) e .2)
 
 abbrev lines : tie.After-k → List ℕ
 lines c =
     let rows = c .before .before .before .rows-of .result in
-    listingBy (marked rows) (λ i j. not (marked rows j i)) (people (c .before .before)) (piece-count c)
+    listingBy (marked rows) (λ i j. not (marked rows j i)) (policy (c .before .before) .people) (piece-count c)
 
-listing-is : (c : tie.After-k) → let p = c .before .before in lines c ≡ listedPlan (people p) (required p) (forbidden p)
+listing-is : (c : tie.After-k) → lines c ≡ listedPlan (policy (c .before .before))
 listing-is c =
     let p = c .before .before in
-    ap (λ (rows : List (List Bool)). listingBy (marked rows) (λ i j. not (marked rows j i)) (people p) (piece-count c)) (table p)
-    ∙ table-listing (people p) (required p) (forbidden p) (piece-count c) (done-with c)
-    ∙ sym (plan-done (people p) (piece-count c) (required p) (forbidden p) (done-with c))
+    ap (λ (rows : List (List Bool)). listingBy (marked rows) (λ i j. not (marked rows j i)) (policy p .people) (piece-count c)) (table p)
+    ∙ table-listing (policy p) (piece-count c) (done-with c)
+    ∙ sym (plan-done (policy p) (piece-count c) (done-with c))
 
 fits : (c : tie.After-rows) → let k = c .before .before .before in Room (lines k) 0 (now (start (k .before .before) .args .out))
 fits c =
@@ -73,17 +68,15 @@ fits c =
     let a = accepted-plan k in
     let rows = k .before .before .before .rows-of .result in
     let g : length (now (start (k .before .before) .args .out)) ≡ 4113 = omega arith in
-    record { room = omega (arith, listing-short (marked rows) (λ i j. not (marked rows j i)) (people (k .before .before)) (piece-count k) (a .0) (a .1)) }
+    record { room = omega (arith, listing-short (marked rows) (λ i j. not (marked rows j i)) (policy (k .before .before) .people) (piece-count k) (a .0) (a .1)) }
 
 -- refused
 refusal-is : (c : tie.After-refusal)
-    → let p = c .before .before in
-    let r = c .refusal .given .0 .0 in
-    refusedLine (number (r .kind)) (r .a) (r .b) ≡ listedPlan (people p) (required p) (forbidden p)
+    → let r = c .refusal .given .0 .0 in refusedLine (number (r .kind)) (r .a) (r .b) ≡ listedPlan (policy (c .before .before))
 refusal-is c =
     let p = c .before .before in
     let r = c .refusal .given .0 .0 in
-    sym (plan-refused (people p) (number (r .kind)) (r .a) (r .b) (required p) (forbidden p) (sym (says p) ∙ ap outcome (c .refusal .given .1)))
+    sym (plan-refused (policy p) (number (r .kind)) (r .a) (r .b) (sym (says p) ∙ ap outcome (c .refusal .given .1)))
 
 refusal-fits : (c : tie.After-write-refusal-arg)
     → let r = c .before .before .refusal .given .0 .0 in

@@ -10,6 +10,7 @@ use Rattle.answer.specs.Outcome.{outcome, done}
 use Rattle.answer.specs.Lent.{over}
 use Rattle.answer.proofs.LentLaws.{result-writes, refusal-keeps}
 use Rattle.planning.specs.Groups.{groups}
+use Rattle.planning.specs.Policy.{Policy, policyOf}
 use Rattle.planning.specs.Planned.{planned}
 use Rattle.planning.proofs.Laws.{some-piece}
 use Rattle.unit.specs.Said.{said, numberOf}
@@ -18,9 +19,11 @@ use borrow.Author.Needs.{needs}
 use Rattle.unit.proofs.titmeadow_plan.Statement.{statement}
 use Rattle.unit.proofs.titmeadow_plan.Tie as tie
 
-accepted : (c : tie.After-known-told)
-    → planned (c .before .before .before .before .before .before .before .args .people) (c .before .before .before .before .before .before .before .args .required .now)
-    (c .before .before .before .before .before .before .before .args .forbidden .now) ≡ done (c .before .k .given .0 .0)
+-- what planning is asked
+abbrev policy : tie.Start → Policy
+policy s = policyOf (s .args .people) (s .args .required .now) (s .args .forbidden .now)
+
+accepted : (c : tie.After-known-told) → planned (policy (c .before .before .before .before .before .before .before)) ≡ done (c .before .k .given .0 .0)
 accepted c =
     let p = c .before .before .before .before in
     sym (p .plan .ensures .0) ∙ ap outcome (sym (c .before .before .before .answer-of .ensures) ∙ c .before .k .given .1)
@@ -40,10 +43,9 @@ rows-of-requires c κs = search needs
 write-groups-requires : tie.Need-write-groups-requires
 write-groups-requires c κs =
     let e = c .before .before .before in
-    let a = e .before .before .before .before .before .before .before .args in
     let p = e .before .before .before .before in (
-      some-piece (a .people) (a .required .now) (a .forbidden .now) _ (accepted e) .2,
-      ap length (c .before .before .rows-of .ensures ∙ p .plan .ensures .1) ∙ rows-seventy (a .people) (a .required .now) (a .forbidden .now) _ (accepted e),
+      some-piece _ _ (accepted e) .2,
+      ap length (c .before .before .rows-of .ensures ∙ p .plan .ensures .1) ∙ rows-seventy _ _ (accepted e),
       omega arith,
     )
 
@@ -62,12 +64,12 @@ returns c =
     let e = w .before .before .before .before in
     let p = e .before .before .before .before in
     let a = p .before .before .before .args in
-    let o = planned (a .people) (a .required .now) (a .forbidden .now) in
+    let o = planned (policy (p .before .before .before)) in
     let rows = w .before .before .before .rows-of .ensures ∙ p .plan .ensures .1 in (
       c .said-of .ensures ∙ sym (ap said (accepted e)),
       w .write-groups .ensures
           ∙ ap (λ (r : List (List Bool)). over (map numberOf (take (e .before .k .given .0 .0) r)) (a .groups .now)) rows
-          ∙ ap (λ (l : List ℕ). over l (a .groups .now)) (rows-numbers (a .people) (a .required .now) (a .forbidden .now) _ (accepted e))
+          ∙ ap (λ (l : List ℕ). over l (a .groups .now)) (rows-numbers _ _ (accepted e))
           ∙ sym (result-writes o _ (groups (a .people) (a .required .now)) (a .groups .now) (accepted e)),
     )
 
@@ -76,7 +78,7 @@ returns-2 c =
     let t = c .before in
     let p = t .before .before .before .before in
     let a = p .before .before .before .args in
-    let o = planned (a .people) (a .required .now) (a .forbidden .now) in
+    let o = planned (policy (p .before .before .before)) in
     let e = sym (p .plan .ensures .0) ∙ ap outcome (sym (t .before .before .before .answer-of .ensures) ∙ t .before .r .given .1) in
     (c .said-of2 .ensures ∙ sym (ap said e), sym (refusal-keeps o _ _ _ (groups (a .people) (a .required .now)) (a .groups .now) e))
 

@@ -2,11 +2,11 @@
 -- Assumes nothing.
 use mathlib.Core.Path.{_∙_}
 use mathlib.Core.List.{List, [], _∷_}
-use Prim.Native.Nat.{ℕ}
 use lib.Dec.{eqb}
 use borrow.Author.Needs.{needs}
 use borrow.Author.Tests.{eq-eqb, ne-eqb, lt-ltb, le-ltb}
 use Rattle.answer.specs.Checks.{Line}
+use Rattle.planning.specs.Policy.{Policy, policyOf}
 use Rattle.planning.specs.Planned.{people, long, strangers, nobody, opens, listLines}
 use Rattle.answer.proofs.Truth.{or-l, or-r}
 use Rattle.answer.proofs.SaysLaws.{said, Says, whole, passes, speaks, silent}
@@ -15,40 +15,38 @@ use Rattle.planning.proofs.checks.check_lists.Statement.{statement}
 use Rattle.planning.proofs.checks.check_lists.Tie as tie
 
 -- the lines that are left after the first, the second ..
-abbrev left6 : ℕ → List ℕ → List ℕ → List Line
-left6 n r f = opens r ∷ []
+abbrev left6 : Policy → List Line
+left6 p = opens (p .required) ∷ []
 
-abbrev left5 : ℕ → List ℕ → List ℕ → List Line
-left5 n r f = nobody r ∷ left6 n r f
+abbrev left5 : Policy → List Line
+left5 p = nobody (p .required) ∷ left6 p
 
-abbrev left4 : ℕ → List ℕ → List ℕ → List Line
-left4 n r f = strangers n 2 f ∷ left5 n r f
+abbrev left4 : Policy → List Line
+left4 p = strangers (p .people) 2 (p .forbidden) ∷ left5 p
 
-abbrev left3 : ℕ → List ℕ → List ℕ → List Line
-left3 n r f = strangers n 1 r ∷ left4 n r f
+abbrev left3 : Policy → List Line
+left3 p = strangers (p .people) 1 (p .required) ∷ left4 p
 
-abbrev left2 : ℕ → List ℕ → List ℕ → List Line
-left2 n r f = long 2 f ∷ left3 n r f
+abbrev left2 : Policy → List Line
+left2 p = long 2 (p .forbidden) ∷ left3 p
 
-abbrev left1 : ℕ → List ℕ → List ℕ → List Line
-left1 n r f = long 1 r ∷ left2 n r f
+abbrev left1 : Policy → List Line
+left1 p = long 1 (p .required) ∷ left2 p
 
-abbrev left7 : ℕ → List ℕ → List ℕ → List Line
-left7 n r f = []
+abbrev left7 : Policy → List Line
+left7 p = []
 
 -- all lines say what those that are left say
-abbrev Left : tie.Start → (ℕ → List ℕ → List ℕ → List Line) → Type 0
-Left s rest =
-    Says (said (listLines (s .args .people) (s .args .required .now) (s .args .forbidden .now)))
-    (rest (s .args .people) (s .args .required .now) (s .args .forbidden .now))
+abbrev Left : tie.Start → (Policy → List Line) → Type 0
+Left s rest = let p = policyOf (s .args .people) (s .args .required .now) (s .args .forbidden .now) in Says (said (listLines p)) (rest p)
 
-all : (n : ℕ) (r f : List ℕ) → Says (said (listLines n r f)) (people n ∷ left1 n r f)
+all : (p : Policy) → Says (said (listLines p)) (people (p .people) ∷ left1 p)
 unfolding listLines
-all n r f = whole _
+all p = whole _
 
 on1 : (c : tie.Else2) → Left (c .before .before .before .before) left1
 unfolding people
-on1 c = passes (all _ _ _) (rw (ne-eqb _ _ (c .before .if1 .left), le-ltb _ _ (c .if2 .left)))
+on1 c = passes (all (policyOf _ _ _)) (rw (ne-eqb _ _ (c .before .if1 .left), le-ltb _ _ (c .if2 .left)))
 
 on2 : (c : tie.Else3) → Left (c .before .before .before .before .before) left2
 unfolding long
@@ -79,14 +77,14 @@ refuse-requires c κs = search needs
 
 returns : tie.Need-returns
 unfolding people
-returns c = c .refuse .ensures ∙ speaks (all _ _ _) (or-l _ (eq-eqb _ _ (c .before .if1 .taken)))
+returns c = c .refuse .ensures ∙ speaks (all (policyOf _ _ _)) (or-l _ (eq-eqb _ _ (c .before .if1 .taken)))
 
 refuse-requires-2 : tie.Need-refuse-requires-2
 refuse-requires-2 c κs = search needs
 
 returns-2 : tie.Need-returns-2
 unfolding people
-returns-2 c = c .refuse2 .ensures ∙ speaks (all _ _ _) (or-r (eqb (c .before .before .before .before .before .args .people) 0) (lt-ltb _ _ (c .before .if2 .taken)))
+returns-2 c = c .refuse2 .ensures ∙ speaks (all (policyOf _ _ _)) (or-r (eqb (c .before .before .before .before .before .args .people) 0) (lt-ltb _ _ (c .before .if2 .taken)))
 
 refuse-requires-3 : tie.Need-refuse-requires-3
 refuse-requires-3 c κs = search needs
