@@ -10,13 +10,14 @@ use lib.Seq.{drop-drop, take-at, drop-at, length-take-le}
 use Rattle.answer.specs.Places.{those}
 use Rattle.answer.specs.Lent.{over}
 use Rattle.answer.proofs.ThoseLaws.{those-miss, those-hit, count-miss, count-hit, those-few, those-more}
-use Rattle.field.specs.Pieces.{values as valuesIn}
+use Rattle.field.specs.Pieces.{values}
 use Rattle.field.proofs.ValuesLaws.{values-length, values-below}
 use Rattle.planning.specs.Groups.{marked}
 use Rattle.block.specs.Written.{blockBytes, Buildable}
 use Rattle.block.proofs.BodyLaws.{length-block}
-use Rattle.dealing.specs.Deal.{flat}
-use Rattle.dealing.specs.Rows.{Inputs, Ready, heldIn, wordsFor, blockFor, cardIn}
+use Rattle.dealing.specs.declared.Asked.{Asked}
+use Rattle.dealing.specs.Deal.{labelFor, blockFor, flat}
+use Rattle.dealing.specs.Rows.{Ready, heldIn}
 
 -- ---- the pieces held, row by row; rows count from 0
 -- the row does not mark the holder
@@ -48,30 +49,29 @@ module _ (rows : List (List Bool)) (holder : ℕ) where
   held-more c k h = those-more (λ j. not (marked rows j holder)) 1 c k h
 
 -- ---- one block
-module _ {t : Inputs} (r : Ready t) where
-  pub ready-builds : (j : ℕ) (vs : List ℕ) → 1 ≤ j → j ≤ t .pieces
-      → vs ≡ valuesIn (t .pieces - 1) (t .secret) (t .random) j → Buildable (wordsFor t j) vs
-  ready-builds j vs l u e =
+module _ {asked : Asked} {k : ℕ} {secret random : List ℕ} (r : Ready asked k secret random) (j : ℕ) where
+  pub ready-builds : (vs : List ℕ) → 1 ≤ j → j ≤ k → vs ≡ values (k - 1) secret random j → Buildable (labelFor asked k (length secret) j) vs
+  ready-builds vs l u e =
       record {
         mark-in = refl;
         deal-in = r .number-in;
         holder-in = r .holder-in;
         people-in = r .few;
         pieces-in = r .most;
-        width-in = (r .width-in .0, r .width-in .1, sym (ap length e ∙ values-length (t .pieces - 1) (t .secret) (t .random) j));
+        width-in = (r .width-in .0, r .width-in .1, sym (ap length e ∙ values-length (k - 1) secret random j));
         piece-in = (l, u);
-        values-in = record { small = λ i. rw e (omega (arith, values-below (t .pieces - 1) (t .secret) (t .random) j .each i)) };
+        values-in = record { small = λ i. rw e (omega (arith, values-below (k - 1) secret random j .each i)) };
       }
 
-  pub block-is : (j : ℕ) (vs : List ℕ) → vs ≡ valuesIn (t .pieces - 1) (t .secret) (t .random) j → blockBytes (wordsFor t j) vs ≡ blockFor t j
+  pub block-is : (vs : List ℕ) → vs ≡ values (k - 1) secret random j → blockBytes (labelFor asked k (length secret) j) vs ≡ blockFor asked k secret random j
   unfolding blockFor
-  block-is j vs e = ap (blockBytes (wordsFor t j)) e
+  block-is vs e = ap (blockBytes (labelFor asked k (length secret) j)) e
 
-  pub block-size : (j : ℕ) → length (blockFor t j) ≡ 512
+  pub block-size : length (blockFor asked k secret random j) ≡ 512
   unfolding blockFor
-  block-size j =
-      length-block (wordsFor t j) (valuesIn (t .pieces - 1) (t .secret) (t .random) j)
-      (omega (arith, values-length (t .pieces - 1) (t .secret) (t .random) j, r .width-in .1))
+  block-size =
+      length-block (labelFor asked k (length secret) j) (values (k - 1) secret random j)
+      (omega (arith, values-length (k - 1) secret random j, r .width-in .1))
 
 -- ---- blocks one after another
 pub flat-append : (xs ys : List (List ℕ)) → flat (xs ++ ys) ≡ flat xs ++ flat ys
@@ -103,72 +103,60 @@ write-length b now at m h =
     length-append (take at now) (b ++ drop (length b) (drop at now))
     ∙ omega (arith, length-take-le at now (omega arith), length-append b (drop (length b) (drop at now)), length-drop (length b) (drop at now), length-drop at now)
 
--- ---- the card, row by row: the blocks of the first c rows are laid over the front of `old`, and make `now`
-pub record Laid (rows : List (List Bool)) (t : Inputs) (old now : List ℕ) (at c : ℕ) : Type 0 where
-  pub within : c ≤ t .pieces
-  pub place : at ≡ 512 * length (heldIn rows (t .holder) c)
+-- ---- the card, row by row: the blocks of the first c rows are laid over the front of `old`, and make `now`; `block j` is that of piece j
+pub record Laid (block : ℕ → List ℕ) (rows : List (List Bool)) (holder k : ℕ) (old now : List ℕ) (at c : ℕ) : Type 0 where
+  pub within : c ≤ k
+  pub place : at ≡ 512 * length (heldIn rows holder c)
   pub same : length now ≡ length old
-  pub laid : now ≡ over (cardIn rows t c) old
+  pub laid : now ≡ over (flat (map block (heldIn rows holder c))) old
 
-module _ (rows : List (List Bool)) {t : Inputs} (r : Ready t) (old : List ℕ) where
-  card-size : (c : ℕ) → length (cardIn rows t c) ≡ 512 * length (heldIn rows (t .holder) c)
-  unfolding cardIn
-  card-size c = flat-size (blockFor t) (block-size r) (heldIn rows (t .holder) c)
+pub laid-start : (block : ℕ → List ℕ) (rows : List (List Bool)) (holder k : ℕ) (old : List ℕ) → Laid block rows holder k old old 0 0
+unfolding heldIn those flat over
+laid-start block rows holder k old = record { within = zero-le; place = refl; same = refl; laid = refl }
 
-  pub laid-start : Laid rows t old old 0 0
-  unfolding cardIn heldIn those flat over
-  laid-start = record { within = zero-le; place = refl; same = refl; laid = refl }
-
+module _ {block : ℕ → List ℕ} {rows : List (List Bool)} {holder k : ℕ} {old now : List ℕ} {at c : ℕ} (w : Laid block rows holder k old now at c) where
   -- a row that marks the holder
-  skipped : (c : ℕ) → free rows (t .holder) c ≡ false → cardIn rows t (c + 1) ≡ cardIn rows t c
-  unfolding cardIn heldIn
-  skipped c e = ap (λ (js : List ℕ). flat (map (blockFor t) js)) (those-miss (λ j. not (marked rows j (t .holder))) 1 c (next-piece rows (t .holder) c e))
+  skipped : free rows holder c ≡ false → heldIn rows holder (c + 1) ≡ heldIn rows holder c
+  unfolding heldIn
+  skipped e = those-miss (λ j. not (marked rows j holder)) 1 c (next-piece rows holder c e)
 
-  pub laid-skip : (now : List ℕ) (at c : ℕ) → c < t .pieces → free rows (t .holder) c ≡ false → Laid rows t old now at c
-      → Laid rows t old now at (c + 1)
-  laid-skip now at c h e w =
-      record {
-        within = omega arith;
-        place = omega (arith, w .place, held-skip rows (t .holder) c (length (heldIn rows (t .holder) c)) e refl);
-        same = w .same;
-        laid = rw (skipped c e) (w .laid);
-      }
+  pub laid-skip : c < k → free rows holder c ≡ false → Laid block rows holder k old now at (c + 1)
+  laid-skip h e = record { within = omega arith; place = rw (skipped e) (w .place); same = w .same; laid = rw (skipped e) (w .laid) }
 
-  -- a row that does not: its block comes next
-  taken : (c : ℕ) → free rows (t .holder) c ≡ true → cardIn rows t (c + 1) ≡ cardIn rows t c ++ blockFor t (c + 1)
-  unfolding cardIn heldIn flat
-  taken c e =
-      let z : 1 + c ≡ c + 1 = omega arith in
-      let held = those (λ j. not (marked rows j (t .holder))) 1 c in
-      ap (λ (js : List ℕ). flat (map (blockFor t) js)) (those-hit (λ j. not (marked rows j (t .holder))) 1 c (next-piece rows (t .holder) c e))
-      ∙ ap flat (map-append (blockFor t) held ((1 + c) ∷ []))
-      ∙ flat-append (map (blockFor t) held) (blockFor t (1 + c) ∷ [])
-      ∙ ap (λ (l : List ℕ). flat (map (blockFor t) held) ++ l) (append-nil (blockFor t (1 + c)) ∙ ap (blockFor t) z)
+  pub laid-end : k ≤ c → now ≡ over (flat (map block (heldIn rows holder k))) old
+  laid-end h = let e : c ≡ k = omega (arith, w .within) in rw e at (w .laid)
 
-  -- there is room for it
-  pub room-left : (now : List ℕ) (at c : ℕ) → c < t .pieces → free rows (t .holder) c ≡ true
-      → 512 * length (heldIn rows (t .holder) (t .pieces)) ≤ length old → Laid rows t old now at c → at + 512 ≤ length now
-  room-left now at c h e room w =
-      omega (
-        arith,
-        w .place,
-        w .same,
-        held-take rows (t .holder) c (length (heldIn rows (t .holder) c)) e refl,
-        held-more rows (t .holder) (c + 1) (t .pieces) (omega arith),
-      )
+  module _ (size : (j : ℕ) → length (block j) ≡ 512) (h : c < k) (e : free rows holder c ≡ true)
+      (room : 512 * length (heldIn rows holder k) ≤ length old) where
+    -- a row that does not: its block comes next
+    taken : flat (map block (heldIn rows holder (c + 1))) ≡ flat (map block (heldIn rows holder c)) ++ block (c + 1)
+    unfolding heldIn flat
+    taken =
+        let z : 1 + c ≡ c + 1 = omega arith in
+        let held = those (λ j. not (marked rows j holder)) 1 c in
+        ap (λ (js : List ℕ). flat (map block js)) (those-hit (λ j. not (marked rows j holder)) 1 c (next-piece rows holder c e))
+        ∙ ap flat (map-append block held ((1 + c) ∷ []))
+        ∙ flat-append (map block held) (block (1 + c) ∷ [])
+        ∙ ap (λ (l : List ℕ). flat (map block held) ++ l) (append-nil (block (1 + c)) ∙ ap block z)
 
-  pub laid-take : (now next : List ℕ) (at c : ℕ) → c < t .pieces → free rows (t .holder) c ≡ true
-      → 512 * length (heldIn rows (t .holder) (t .pieces)) ≤ length old → next ≡ take at now ++ over (blockFor t (c + 1)) (drop at now)
-      → Laid rows t old now at c → Laid rows t old next (at + 512) (c + 1)
-  laid-take now next at c h e room q w =
-      let n : length (cardIn rows t c) ≡ at = card-size c ∙ sym (w .place) in
-      let b = blockFor t (c + 1) in
-      record {
-        within = omega arith;
-        place = omega (arith, w .place, held-take rows (t .holder) c (length (heldIn rows (t .holder) c)) e refl);
-        same = ap length q ∙ write-length b now at (block-size r (c + 1)) (room-left now at c h e room w) ∙ w .same;
-        laid = rw (taken c e) (q ∙ lay (cardIn rows t c) b old now at n (w .laid));
-      }
+    -- there is room for it
+    pub room-left : at + 512 ≤ length now
+    room-left =
+        omega (
+          arith,
+          w .place,
+          w .same,
+          held-take rows holder c (length (heldIn rows holder c)) e refl,
+          held-more rows holder (c + 1) k (omega arith),
+        )
 
-  pub laid-end : (now : List ℕ) (at c : ℕ) → t .pieces ≤ c → Laid rows t old now at c → now ≡ over (cardIn rows t (t .pieces)) old
-  laid-end now at c h w = let e : c ≡ t .pieces = omega (arith, w .within) in rw e at (w .laid)
+    pub laid-take : (next : List ℕ) → next ≡ take at now ++ over (block (c + 1)) (drop at now) → Laid block rows holder k old next (at + 512) (c + 1)
+    laid-take next q =
+        let laid = flat (map block (heldIn rows holder c)) in
+        let n : length laid ≡ at = flat-size block size (heldIn rows holder c) ∙ sym (w .place) in
+        record {
+          within = omega arith;
+          place = omega (arith, w .place, held-take rows holder c (length (heldIn rows holder c)) e refl);
+          same = ap length q ∙ write-length (block (c + 1)) now at (size (c + 1)) room-left ∙ w .same;
+          laid = rw taken (q ∙ lay laid (block (c + 1)) old now at n (w .laid));
+        }

@@ -10,7 +10,8 @@ use Rattle.planning.specs.Groups as planning
 use Rattle.planning.specs.Groups.{_∈_, holds}
 use Rattle.planning.proofs.Laws.{held-are}
 use Rattle.block.specs.Written.{blockBytes}
-use Rattle.dealing.specs.Deal.{Deal, pieceCount, held, values, header, blockOf, flat, cardBlocks, card}
+use Rattle.dealing.specs.declared.Asked.{Asked}
+use Rattle.dealing.specs.Deal.{Deal, labelFor, blockFor, flat, askedOf, pieceCount, held, values, blockOf, card}
 
 -- ---- which pieces a person holds
 module _ (d : Deal) (holder j : ℕ) where
@@ -33,8 +34,10 @@ map-same f g [] e = refl
 map-same f g (j ∷ l) e =
     ap₂ (λ (x : List ℕ) (xs : List (List ℕ)). x ∷ xs) (e j (List·Memᴰ·head refl)) (map-same f g l (λ i m. e i (List·Memᴰ·tail m)))
 
-module _ (d d′ : Deal) (holder : ℕ) (people : d .policy .people ≡ d′ .policy .people) (required : d .policy .required ≡ d′ .policy .required)
-    (number : d .number ≡ d′ .number) where
+module _ (d d′ : Deal) (holder : ℕ) (asked : askedOf d holder ≡ askedOf d′ holder) (required : d .policy .required ≡ d′ .policy .required) where
+  abbrev people : d .policy .people ≡ d′ .policy .people
+  people = ap (λ (a : Asked). a .people) asked
+
   count-same : pieceCount d ≡ pieceCount d′
   unfolding pieceCount
   count-same = ap₂ planning.pieceCount people required
@@ -45,16 +48,13 @@ module _ (d d′ : Deal) (holder : ℕ) (people : d .policy .people ≡ d′ .po
 
   -- equal values are equally many: so are the words of the secrets
   block-same : (j : ℕ) → values d j ≡ values d′ j → blockOf d holder j ≡ blockOf d′ holder j
-  unfolding blockOf header
+  unfolding blockOf blockFor values
   block-same j e =
       let width : length (d .secret) ≡ length (d′ .secret) = sym (values-length d j) ∙ ap length e ∙ values-length d′ j in
-      λ t.
-      blockBytes
-      (record { mark = 1987; deal = number t; holder = holder; people = people t; pieces = count-same t; width = width t; piece = j })
-      (e t)
+      λ t. blockBytes (labelFor (asked t) (count-same t) (width t) j) (e t)
 
   pub card-depends : ((j : ℕ) → j ∈ held d holder → values d j ≡ values d′ j) → card d holder ≡ card d′ holder
-  unfolding card cardBlocks
+  unfolding card blockOf
   card-depends e =
       ap flat
       (map-same (blockOf d holder) (blockOf d′ holder) (held d holder) (λ j m. block-same j (e j m))

@@ -15,8 +15,9 @@ use Rattle.answer.proofs.FirstLaws.{place-lacks, none-found, first-all, found-n
 use Rattle.field.specs.Poly.{Below}
 use Rattle.field.proofs.Sums.{below-within}
 use Rattle.answer.proofs.Truth.{neither}
+use Rattle.dealing.specs.declared.Asked.{Asked}
 use Rattle.dealing.specs.Dealt.{tooLarge, outside, badNumber, badHolder, badWidth, badSecret, badCount, badRandom, inputLines}
-use Rattle.dealing.specs.Rows.{Inputs, Ready}
+use Rattle.dealing.specs.Rows.{Ready}
 
 -- ---- a number in its range
 pub in-range : (high v : ℕ) → outside high v ≡ false → (1 ≤ v) × (v ≤ high)
@@ -40,34 +41,34 @@ words-small l b =
     found-none (first-all (λ i. tooLarge (at l i)) 1 (length l + 1) (λ i low high. le-ltb 32748 (at l i) (omega (arith, b .each (i - 1)))))
 
 -- ---- 8 to 11
-pub lines-ready : (t : Inputs) → t .people ≤ 8 → 1 ≤ t .pieces → t .pieces ≤ 70
-    → Passed (inputLines (t .people) (t .pieces) (t .number) (t .holder) (t .secret) (t .random)) → Ready t
-unfolding inputLines badNumber badHolder badWidth badSecret badCount badRandom
-lines-ready t few least most p =
-    let p1 = passed p in
-    let p2 = passed (p1 .1) in
-    let p3 = passed (p2 .1) in
-    let p4 = passed (p3 .1) in
-    let p5 = passed (p4 .1) in
-    let p6 = passed (p5 .1) in
-    record {
-      few = few;
-      least = least;
-      most = most;
-      number-in = in-range 32748 (t .number) (p1 .0);
-      holder-in = in-range (t .people) (t .holder) (p2 .0);
-      width-in = in-range 16 (length (t .secret)) (p3 .0);
-      secret-in = small-words (t .secret) (p4 .0);
-      random-in = record { count = eqb-true _ _ (not-false _ (p5 .0)); below = small-words (t .random) (p6 .0) };
-    }
+module _ {asked : Asked} {k : ℕ} {secret random : List ℕ} where
+  pub lines-ready : asked .people ≤ 8 → 1 ≤ k → k ≤ 70 → Passed (inputLines asked (k - 1) secret random) → Ready asked k secret random
+  unfolding inputLines badNumber badHolder badWidth badSecret badCount badRandom
+  lines-ready few least most p =
+      let p1 = passed p in
+      let p2 = passed (p1 .1) in
+      let p3 = passed (p2 .1) in
+      let p4 = passed (p3 .1) in
+      let p5 = passed (p4 .1) in
+      let p6 = passed (p5 .1) in
+      record {
+        few = few;
+        least = least;
+        most = most;
+        number-in = in-range 32748 (asked .number) (p1 .0);
+        holder-in = in-range (asked .people) (asked .holder) (p2 .0);
+        width-in = in-range 16 (length secret) (p3 .0);
+        secret-in = small-words secret (p4 .0);
+        random-in = record { count = eqb-true _ _ (not-false _ (p5 .0)); below = small-words random (p6 .0) };
+      }
 
-pub ready-lines : (t : Inputs) → Ready t → Passed (inputLines (t .people) (t .pieces) (t .number) (t .holder) (t .secret) (t .random))
-unfolding inputLines badNumber badHolder badWidth badSecret badCount badRandom
-ready-lines t r =
-    passed-one (range-in 32748 (t .number) (r .number-in .0) (r .number-in .1))
-    (passed-one (range-in (t .people) (t .holder) (r .holder-in .0) (r .holder-in .1))
-    (passed-one (range-in 16 (length (t .secret)) (r .width-in .0) (r .width-in .1))
-    (passed-one (words-small (t .secret) (r .secret-in))
-    (passed-one (rw (eq-eqb _ _ (r .random-in .count)))
-    (passed-one (words-small (t .random) (r .random-in .below))
-    passed-none)))))
+  pub ready-lines : Ready asked k secret random → Passed (inputLines asked (k - 1) secret random)
+  unfolding inputLines badNumber badHolder badWidth badSecret badCount badRandom
+  ready-lines r =
+      passed-one (range-in 32748 (asked .number) (r .number-in .0) (r .number-in .1))
+      (passed-one (range-in (asked .people) (asked .holder) (r .holder-in .0) (r .holder-in .1))
+      (passed-one (range-in 16 (length secret) (r .width-in .0) (r .width-in .1))
+      (passed-one (words-small secret (r .secret-in))
+      (passed-one (rw (eq-eqb _ _ (r .random-in .count)))
+      (passed-one (words-small random (r .random-in .below))
+      passed-none)))))

@@ -7,7 +7,6 @@ use native.Mathlib.Omega.{arith}
 use lib.ListN.{length, drop}
 use borrow.Author.Tests.{ltb-false}
 use Rattle.answer.specs.Outcome.{done}
-use Rattle.answer.specs.Checks.{firstFail}
 use Rattle.answer.specs.Laws.{Passed}
 use Rattle.answer.specs.Lent.{noRoom, over}
 use Rattle.answer.proofs.CheckLaws.{append-lines, done-passed, passed-done, passed, passed-append}
@@ -21,45 +20,47 @@ use Rattle.block.specs.Words.{bytesOf}
 use Rattle.block.specs.Open.{opening, valueBytes, wordsOf, TrueBlock}
 use Rattle.block.specs.Written.{Buildable}
 use Rattle.block.proofs.Laws.{opens-written}
-use Rattle.dealing.specs.Deal.{Deal, again, pieceCount, held, values, header, blockOf, cardBlocks, card}
+use Rattle.dealing.specs.Deal.{Deal, again, blockFor, askedOf, pieceCount, held, values, label, blockOf, card}
 use Rattle.dealing.specs.Dealt.{blockCount, dealLines, dealing, dealtInto, Made}
-use Rattle.dealing.specs.Rows.{inputsFor, Ready, blockFor}
+use Rattle.dealing.specs.Rows.{Ready, roomSays}
 use Rattle.dealing.proofs.HeldLaws.{held-in}
 use Rattle.dealing.proofs.InputLaws.{lines-ready, ready-lines}
 use Rattle.dealing.proofs.CardLaws.{ready-builds, block-size, flat-size}
 use Rattle.dealing.proofs.DealLaws.{linesFor, past-plan, plan-few}
 
--- ---- what every card of such a deal rests on: planning accepts its policy, and the rest is in its range
+-- ---- what every card of such a deal rests on: planning accepts its policy, and what is asked for some holder is in its range
 pub record InRange (d : Deal) : Type 0 where
   pub plan-passes : Passed (planLines (d .policy))
-  pub few : d .policy .people ≤ 8
-  pub least : 1 ≤ pieceCount d
-  pub most : pieceCount d ≤ 70
-  pub number-in : (1 ≤ d .number) × (d .number ≤ 32748)
-  pub width-in : (1 ≤ length (d .secret)) × (length (d .secret) ≤ 16)
-  pub secret-in : Below (d .secret)
-  pub random-in : Random (length (d .secret)) (pieceCount d) (d .random)
+  pub holder : ℕ
+  pub ready : Ready (askedOf d holder) (pieceCount d) (d .secret) (d .random)
 
--- with a holder it is what a card is written from
-ready : (d : Deal) → InRange d → (holder : ℕ) → 1 ≤ holder → holder ≤ d .policy .people → Ready (inputsFor d holder)
-ready d f holder l u =
+-- the same for another holder, another secret in range, other randomness in range
+ready-with : (d : Deal) → InRange d → (holder : ℕ) → (1 ≤ holder) × (holder ≤ d .policy .people) → (secret random : List ℕ)
+    → length secret ≡ length (d .secret) → Below secret → Random (length secret) (pieceCount d) random
+    → Ready (askedOf d holder) (pieceCount d) secret random
+ready-with d f holder h secret random e b r =
     record {
-      few = f .few;
-      least = f .least;
-      most = f .most;
-      number-in = f .number-in;
-      holder-in = (l, u);
-      width-in = f .width-in;
-      secret-in = f .secret-in;
-      random-in = f .random-in;
+      few = f .ready .few;
+      least = f .ready .least;
+      most = f .ready .most;
+      number-in = f .ready .number-in;
+      holder-in = h;
+      width-in = rw e (f .ready .width-in);
+      secret-in = b;
+      random-in = r;
     }
 
-plan-accepts : (d : Deal) → Passed (planLines (d .policy))
-    → planned (d .policy) ≡ done (pieceCount d)
+pub again-in-range : (d : Deal) → InRange d → (secret random : List ℕ) → length secret ≡ length (d .secret) → Below secret
+    → Random (length secret) (pieceCount d) random → InRange (again d secret random)
+unfolding pieceCount
+again-in-range d f secret random e b r =
+    record { plan-passes = f .plan-passes; holder = f .holder; ready = ready-with d f (f .holder) (f .ready .holder-in) secret random e b r }
+
+-- ---- a card was dealt, so everything passed
+plan-accepts : (d : Deal) → Passed (planLines (d .policy)) → planned (d .policy) ≡ done (pieceCount d)
 unfolding planned pieceCount
 plan-accepts d p = passed-done (planLines (d .policy)) (done (pieceCount d)) p
 
--- ---- a card was dealt, so everything passed
 made-lines : (d : Deal) (m : Made d)
     → Passed (planLines (d .policy))
     × Passed (linesFor d (m .holder))
@@ -71,78 +72,51 @@ made-lines d m =
     let q = passed-append (linesFor d (m .holder)) (p .1) in
     (p .0, q .0, q .1)
 
-made-ready : (d : Deal) (m : Made d) → Ready (inputsFor d (m .holder))
-made-ready d m =
-    let p = made-lines d m in
-    let f = plan-few d (plan-accepts d (p .0)) in
-    lines-ready (inputsFor d (m .holder)) (f .0) (f .1) (f .2) (p .1)
-
 pub made-in-range : (d : Deal) → Made d → InRange d
 made-in-range d m =
-    let r = made-ready d m in
-    record {
-      plan-passes = made-lines d m .0;
-      few = r .few;
-      least = r .least;
-      most = r .most;
-      number-in = r .number-in;
-      width-in = r .width-in;
-      secret-in = r .secret-in;
-      random-in = r .random-in;
-    }
+    let p = made-lines d m in
+    let f = plan-few d (plan-accepts d (p .0)) in
+    record { plan-passes = p .0; holder = m .holder; ready = lines-ready (f .0) (f .1) (f .2) (p .1) }
 
 -- the holder whose card it was
 pub made-holder : (d : Deal) (m : Made d) → (1 ≤ m .holder) × (m .holder ≤ d .policy .people)
-made-holder d m = made-ready d m .holder-in
-
--- the same deal with another secret in range and other randomness in range
-pub again-in-range : (d : Deal) → InRange d → (secret random : List ℕ) → length secret ≡ length (d .secret) → Below secret
-    → Random (length secret) (pieceCount d) random → InRange (again d secret random)
-unfolding pieceCount
-again-in-range d f secret random e b r =
-    record {
-      plan-passes = f .plan-passes;
-      few = f .few;
-      least = f .least;
-      most = f .most;
-      number-in = f .number-in;
-      width-in = rw e (f .width-in);
-      secret-in = b;
-      random-in = r;
-    }
+unfolding made-in-range
+made-holder d m = made-in-range d m .ready .holder-in
 
 module _ (d : Deal) (f : InRange d) (holder : ℕ) (least : 1 ≤ holder) (most : holder ≤ d .policy .people) where
+  ready : Ready (askedOf d holder) (pieceCount d) (d .secret) (d .random)
+  ready = ready-with d f holder (least, most) (d .secret) (d .random) refl (f .ready .secret-in) (f .ready .random-in)
+
   -- ---- only the room is left to check
-  pub only-room : (room : ℕ) → dealing d holder room ≡ firstFail (noRoom (512 * blockCount d holder) (blockCount d holder) room ∷ []) (done (blockCount d holder))
+  pub only-room : (room : ℕ) → dealing d holder room ≡ roomSays (blockCount d holder) room
   only-room room =
-      let last = noRoom (512 * blockCount d holder) (blockCount d holder) room ∷ [] in
       past-plan d (f .plan-passes) holder room
-      ∙ append-lines (linesFor d holder) last (done (blockCount d holder))
-      ∙ passed-done (linesFor d holder) (firstFail last (done (blockCount d holder))) (ready-lines (inputsFor d holder) (ready d f holder least most))
+      ∙ append-lines (linesFor d holder) _ (done (blockCount d holder))
+      ∙ passed-done (linesFor d holder) (roomSays (blockCount d holder) room) (ready-lines ready)
 
   pub deals-all : (room : ℕ) → 512 * blockCount d holder ≤ room → dealing d holder room ≡ done (blockCount d holder)
   deals-all room h = only-room room ∙ lent.room-given (512 * blockCount d holder) (blockCount d holder) room (done (blockCount d holder)) h
 
   -- ---- its card: blocks of 512 bytes
   pub block-length : (j : ℕ) → length (blockOf d holder j) ≡ 512
-  unfolding blockOf header values blockFor
-  block-length j = block-size (ready d f holder least most) j
+  unfolding blockOf
+  block-length j = block-size ready j
 
   pub card-length : length (card d holder) ≡ 512 * blockCount d holder
-  unfolding card cardBlocks blockCount
+  unfolding card blockOf blockCount
   card-length = flat-size (blockOf d holder) block-length (held d holder)
 
   -- ---- each of them is true, and opens
-  pub buildable : (j : ℕ) → j ∈ held d holder → Buildable (header d holder j) (values d j)
-  unfolding header values
-  buildable j m = let h = held-in d holder j m in ready-builds (ready d f holder least most) j (values d j) (h .0) (h .1) refl
+  pub buildable : (j : ℕ) → j ∈ held d holder → Buildable (label d holder j) (values d j)
+  unfolding label values
+  buildable j m = let h = held-in d holder j m in ready-builds ready j (values d j) (h .0) (h .1) refl
 
   pub blocks-open : (j : ℕ) → j ∈ held d holder → (rest : List ℕ)
       → TrueBlock (blockOf d holder j ++ rest)
-      × (opening (blockOf d holder j ++ rest) ≡ done (wordsOf (header d holder j)))
+      × (opening (blockOf d holder j ++ rest) ≡ done (wordsOf (label d holder j)))
       × (valueBytes (blockOf d holder j ++ rest) ≡ bytesOf (values d j))
-  unfolding blockOf
-  blocks-open j m rest = opens-written (header d holder j) (values d j) rest (buildable j m)
+  unfolding blockOf blockFor label values
+  blocks-open j m rest = opens-written (label d holder j) (values d j) rest (buildable j m)
 
 -- ---- what is left in the lent output
 module _ (d : Deal) (holder : ℕ) (out : List ℕ) (blocks : ℕ) (e : dealing d holder (length out) ≡ done blocks) where

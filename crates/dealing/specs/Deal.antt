@@ -8,6 +8,7 @@ use Rattle.planning.specs.Groups as planning
 use Rattle.planning.specs.Policy.{Policy}
 use Rattle.block.specs.declared.Words.{Words}
 use Rattle.block.specs.Written.{blockBytes}
+use Rattle.dealing.specs.declared.Asked.{Asked}
 
 -- "The cards of one deal share policy, deal number, secret and randomness."
 pub record Deal : Type 0 where
@@ -16,13 +17,45 @@ pub record Deal : Type 0 where
   pub secret : List ℕ
   pub random : List ℕ
 
--- the deal of a call's arguments
+-- the deal of these
 abbrev pub dealFrom : Policy → ℕ → List ℕ → List ℕ → Deal
 dealFrom policy number secret random = record { policy = policy; number = number; secret = secret; random = random }
 
 -- the same policy and deal number with another secret and other randomness
 abbrev pub again : Deal → List ℕ → List ℕ → Deal
 again d secret random = dealFrom (d .policy) (d .number) secret random
+
+-- ---- a card of k pieces: from what is asked, k, the secret and the randomness
+-- words 1 to 7 of the block of piece j, where the secret has so many words
+abbrev pub labelFor : Asked → ℕ → ℕ → ℕ → Words
+labelFor asked k width j =
+    record {
+      mark = 1987;
+      deal = asked .number;
+      holder = asked .holder;
+      people = asked .people;
+      pieces = k;
+      width = width;
+      piece = j;
+    }
+
+-- that block's 512 bytes: the values of piece j, made with k − 1 coefficients for each word of the secret
+unfoldable pub blockFor : Asked → ℕ → List ℕ → List ℕ → ℕ → List ℕ
+blockFor asked k secret random j = blockBytes (labelFor asked k (length secret) j) (valuesIn (k - 1) secret random j)
+
+-- lists one after another
+unfoldable pub flat : List (List ℕ) → List ℕ
+flat [] = []
+flat (b ∷ bs) = b ++ flat bs
+
+-- a card: a block for each of these pieces, in their order
+abbrev pub cardOver : Asked → ℕ → List ℕ → List ℕ → List ℕ → List ℕ
+cardOver asked k secret random pieces = flat (map (blockFor asked k secret random) pieces)
+
+-- ---- the cards of a deal
+-- what is asked where it is the card of this holder
+abbrev pub askedOf : Deal → ℕ → Asked
+askedOf d holder = record { people = d .policy .people; number = d .number; holder = holder }
 
 -- k, the pieces of the deal
 unfoldable pub pieceCount : Deal → ℕ
@@ -37,31 +70,17 @@ unfoldable pub values : Deal → ℕ → List ℕ
 values d j = valuesIn (pieceCount d - 1) (d .secret) (d .random) j
 
 -- words 1 to 7 of the block of piece j on the holder's card
-unfoldable pub header : Deal → ℕ → ℕ → Words
-header d holder j =
-    record {
-      mark = 1987;
-      deal = d .number;
-      holder = holder;
-      people = d .policy .people;
-      pieces = pieceCount d;
-      width = length (d .secret);
-      piece = j;
-    }
+unfoldable pub label : Deal → ℕ → ℕ → Words
+label d holder j = labelFor (askedOf d holder) (pieceCount d) (length (d .secret)) j
 
--- that block's 512 bytes
+-- that block
 unfoldable pub blockOf : Deal → ℕ → ℕ → List ℕ
-blockOf d holder j = blockBytes (header d holder j) (values d j)
+blockOf d holder j = blockFor (askedOf d holder) (pieceCount d) (d .secret) (d .random) j
 
--- lists one after another
-unfoldable pub flat : List (List ℕ) → List ℕ
-flat [] = []
-flat (b ∷ bs) = b ++ flat bs
-
--- "one block of 512 bytes for each piece held, in rising piece number"
+-- the blocks of the holder's card, one for each piece held
 unfoldable pub cardBlocks : Deal → ℕ → List (List ℕ)
 cardBlocks d holder = map (blockOf d holder) (held d holder)
 
 -- the holder's card: "a person who holds none has a card of no bytes"
 unfoldable pub card : Deal → ℕ → List ℕ
-card d holder = flat (cardBlocks d holder)
+card d holder = cardOver (askedOf d holder) (pieceCount d) (d .secret) (d .random) (held d holder)

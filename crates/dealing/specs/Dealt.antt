@@ -12,7 +12,8 @@ use Rattle.answer.specs.Checks.{Line, line, firstFail}
 use Rattle.answer.specs.Places.{firstPlace, found}
 use Rattle.answer.specs.Lent.{noRoom, left}
 use Rattle.planning.specs.Planned.{planLines}
-use Rattle.dealing.specs.Deal.{Deal, pieceCount, held, card}
+use Rattle.dealing.specs.declared.Asked.{Asked}
+use Rattle.dealing.specs.Deal.{Deal, askedOf, pieceCount, held, card}
 
 -- a word above 32748
 abbrev pub tooLarge : ℕ → Bool
@@ -38,18 +39,28 @@ badWidth secret = line Secret (outside 16 (length secret)) 0 0
 unfoldable pub badSecret : List ℕ → Line
 badSecret secret = line Secret (found (firstPlace tooLarge secret)) (firstPlace tooLarge secret) 0
 
--- 11 RANDOM: "count not w(k−1) (a = 0)"
+-- 11 RANDOM, a = 0: each word of the secret wants so many coefficients, and there are not as many as they want together
 unfoldable pub badCount : ℕ → List ℕ → List ℕ → Line
-badCount k secret random = line Random (not (eqb (length random) (length secret * (k - 1)))) 0 0
+badCount each secret random = line Random (not (eqb (length random) (length secret * each))) 0 0
 
 -- 11 RANDOM: "else a word above 32748", "a: first bad word"
 unfoldable pub badRandom : List ℕ → Line
 badRandom random = line Random (found (firstPlace tooLarge random)) (firstPlace tooLarge random) 0
 
 -- 8 to 11, in their order
-unfoldable pub inputLines : ℕ → ℕ → ℕ → ℕ → List ℕ → List ℕ → List Line
-inputLines people k number holder secret random =
-    badNumber number ∷ badHolder people holder ∷ badWidth secret ∷ badSecret secret ∷ badCount k secret random ∷ badRandom random ∷ []
+unfoldable pub inputLines : Asked → ℕ → List ℕ → List ℕ → List Line
+inputLines asked each secret random =
+    badNumber (asked .number)
+    ∷ badHolder (asked .people) (asked .holder)
+    ∷ badWidth secret
+    ∷ badSecret secret
+    ∷ badCount each secret random
+    ∷ badRandom random
+    ∷ []
+
+-- 8 to 12: for a card of so many blocks into a lent output of so many bytes
+abbrev pub cardLines : Asked → ℕ → List ℕ → List ℕ → ℕ → ℕ → List Line
+cardLines asked each secret random blocks room = inputLines asked each secret random ++ noRoom (512 * blocks) blocks room ∷ []
 
 -- how many blocks the holder's card has
 unfoldable pub blockCount : Deal → ℕ → ℕ
@@ -58,8 +69,7 @@ blockCount d holder = length (held d holder)
 -- 1 to 12, in their order: for one holder's card into a lent output of so many bytes
 unfoldable pub dealLines : Deal → ℕ → ℕ → List Line
 dealLines d holder room =
-    planLines (d .policy)
-    ++ (inputLines (d .policy .people) (pieceCount d) (d .number) holder (d .secret) (d .random) ++ noRoom (512 * blockCount d holder) (blockCount d holder) room ∷ [])
+    planLines (d .policy) ++ cardLines (askedOf d holder) (pieceCount d - 1) (d .secret) (d .random) (blockCount d holder) room
 
 -- what dealing answers: "Dealing returns the number of blocks"
 unfoldable pub dealing : Deal → ℕ → ℕ → Outcome ℕ

@@ -8,16 +8,15 @@ use Rattle.answer.specs.Outcome.{done, refused}
 use Rattle.planning.specs.Groups.{_∈_}
 use Rattle.block.specs.Words.{bytesOf}
 use Rattle.block.specs.Open.{opening, valueBytes, wordsOf, TrueBlock}
-use Rattle.dealing.specs.Deal.{Deal, held, values, header, blockOf, card}
+use Rattle.dealing.specs.Deal.{Deal, askedOf, held, values, label, blockOf, card}
 use Rattle.dealing.specs.Dealt.{Made, blockCount, dealing, dealtInto}
 
 -- "A card depends on the policy, the deal number, the holder and the pieces held, and on nothing else." (Of the policy, not on the
 -- forbidden sets.)
 abbrev pub CardDepends : Type 0
 CardDepends = (d d′ : Deal) (holder : ℕ)
-    → d .policy .people ≡ d′ .policy .people
+    → askedOf d holder ≡ askedOf d′ holder
     → d .policy .required ≡ d′ .policy .required
-    → d .number ≡ d′ .number
     → ((j : ℕ) → j ∈ held d holder → values d j ≡ values d′ j)
     → card d holder ≡ card d′ holder
 
@@ -25,7 +24,7 @@ CardDepends = (d d′ : Deal) (holder : ℕ)
 abbrev pub BlocksOpen : Type 0
 BlocksOpen = (d : Deal) → Made d → (holder j : ℕ) → 1 ≤ holder → holder ≤ d .policy .people → j ∈ held d holder → (rest : List ℕ)
     → TrueBlock (blockOf d holder j ++ rest)
-    × (opening (blockOf d holder j ++ rest) ≡ done (wordsOf (header d holder j)))
+    × (opening (blockOf d holder j ++ rest) ≡ done (wordsOf (label d holder j)))
     × (valueBytes (blockOf d holder j ++ rest) ≡ bytesOf (values d j))
 
 -- "A card is one block of 512 bytes for each piece held."

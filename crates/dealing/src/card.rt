@@ -1,4 +1,5 @@
 // A holder's card, block by block, from the table of rows: a person holds the pieces whose row does not mark that person.
+use crate::Asked;
 use answer::Answer;
 use answer::Kind;
 use block::Words;
@@ -8,7 +9,8 @@ ghost use Prim.Native.Nat.{_+_, _*_, _≤_};
 ghost use lib.ListN.{length, take, drop};
 ghost use Rattle.answer.specs.Outcome.{outcome};
 ghost use Rattle.answer.specs.Lent.{over, left};
-ghost use Rattle.dealing.specs.Rows.{inputsOf, Ready, heldIn, blockFor, cardIn, roomSays};
+ghost use Rattle.dealing.specs.Deal.{blockFor, cardOver};
+ghost use Rattle.dealing.specs.Rows.{Ready, heldIn, roomSays};
 
 // How many of the first k rows do not mark the holder.
 fn held_count(rows: &[[bool; 8]; 70], k: usize, holder: usize) -> usize
@@ -29,10 +31,8 @@ fn held_count(rows: &[[bool; 8]; 70], k: usize, holder: usize) -> usize
 
 // Writes the block of piece j from byte `at` on; the rest stays.
 fn write_piece(
-    people: usize,
+    asked: Asked,
     k: usize,
-    deal_number: usize,
-    holder: usize,
     secret: &[u16],
     random: &[u16],
     j: usize,
@@ -40,19 +40,19 @@ fn write_piece(
     at: usize,
 )
     requires { ⌜ at + 512 ≤ length (now out) ⌝ }
-    requires { ⌜ Ready (inputsOf people k «deal_number» holder (now secret) (now random)) ⌝ }
+    requires { ⌜ Ready asked k (now secret) (now random) ⌝ }
     requires { ⌜ (1 ≤ j) × (j ≤ k) ⌝ }
     ensures { λ _.
-        let t = inputsOf people k «deal_number» holder (now (secret .entry)) (now (random .entry)) in
-        ⌜ now (out .exit) ≡ take at (now (out .entry)) ++ over (blockFor t j) (drop at (now (out .entry))) ⌝ }
+        let block = blockFor asked k (now (secret .entry)) (now (random .entry)) j in
+        ⌜ now (out .exit) ≡ take at (now (out .entry)) ++ over block (drop at (now (out .entry))) ⌝ }
 {
     let width = secret.len();
     let made = field::values_of(secret, random, k - 1, j as u16);
     let h = Words {
         mark: 1987,
-        deal: deal_number as u16,
-        holder: holder as u16,
-        people: people as u16,
+        deal: asked.number as u16,
+        holder: asked.holder as u16,
+        people: asked.people as u16,
         pieces: k as u16,
         width: width as u16,
         piece: j as u16,
@@ -63,42 +63,28 @@ fn write_piece(
 // Refusal 12, or the holder's card, written over the front of what is lent, and how many blocks it has.
 pub fn write_card(
     rows: &[[bool; 8]; 70],
-    people: usize,
+    asked: Asked,
     k: usize,
-    deal_number: usize,
-    holder: usize,
     secret: &[u16],
     random: &[u16],
     out: &mut [u8],
 ) -> Answer
-    requires { ⌜ Ready (inputsOf people k «deal_number» holder (now secret) (now random)) ⌝ }
-    ensures says { λ r.
-        let t = inputsOf people k «deal_number» holder (now (secret .entry)) (now (random .entry)) in
-        ⌜ outcome r ≡ roomSays (now (rows .entry)) t (length (now (out .entry))) ⌝ }
+    requires { ⌜ Ready asked k (now secret) (now random) ⌝ }
+    ensures says { λ r. ⌜ outcome r ≡ roomSays (length (heldIn (now (rows .entry)) (asked .holder) k)) (length (now (out .entry))) ⌝ }
     ensures leaves { λ r.
-        let t = inputsOf people k «deal_number» holder (now (secret .entry)) (now (random .entry)) in
-        ⌜ now (out .exit) ≡ left (outcome r) (cardIn (now (rows .entry)) t k) (now (out .entry)) ⌝ }
+        let card = cardOver asked k (now (secret .entry)) (now (random .entry)) (heldIn (now (rows .entry)) (asked .holder) k) in
+        ⌜ now (out .exit) ≡ left (outcome r) card (now (out .entry)) ⌝ }
 {
-    let blocks = held_count(rows, k, holder);
+    let blocks = held_count(rows, k, asked.holder);
     if out.len() < 512 * blocks {
         return answer::refuse(Kind::Room, blocks, 0);
     }
-    let column = holder - 1;
+    let column = asked.holder - 1;
     let mut at: usize = 0;
     let mut row: usize = 0;
     while row < k {
         if !rows[row][column] {
-            write_piece(
-                people,
-                k,
-                deal_number,
-                holder,
-                secret,
-                random,
-                row + 1,
-                out,
-                at,
-            );
+            write_piece(asked, k, secret, random, row + 1, out, at);
             at += 512;
         }
         row += 1;

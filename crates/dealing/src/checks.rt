@@ -1,4 +1,5 @@
 // Refusals 8 to 11: the deal number, the holder, the secret and the randomness, in this order.
+use crate::Asked;
 use answer::Answer;
 use answer::Kind;
 ghost use mathlib.Core.Path.{_≡_};
@@ -29,22 +30,15 @@ fn outside(high: usize, v: usize) -> bool
     if v == 0 { true } else { high < v }
 }
 
-// Refusals 8 to 11.
-pub fn check_inputs(
-    people: usize,
-    k: usize,
-    deal_number: usize,
-    holder: usize,
-    secret: &[u16],
-    random: &[u16],
-) -> Answer
-    requires { ⌜ (1 ≤ k) × (k ≤ 70) ⌝ }
-    ensures { λ r. ⌜ outcome r ≡ firstFail (inputLines people k «deal_number» holder (now (secret .entry)) (now (random .entry))) (done 0) ⌝ }
+// Refusals 8 to 11, where each word of the secret wants so many coefficients.
+pub fn check_inputs(asked: Asked, each: usize, secret: &[u16], random: &[u16]) -> Answer
+    requires { ⌜ each ≤ 4096 ⌝ }
+    ensures { λ r. ⌜ outcome r ≡ firstFail (inputLines asked each (now (secret .entry)) (now (random .entry))) (done 0) ⌝ }
 {
-    if outside(32748, deal_number) {
+    if outside(32748, asked.number) {
         return answer::refuse(Kind::Deal, 0, 0);
     }
-    if outside(people, holder) {
+    if outside(asked.people, asked.holder) {
         return answer::refuse(Kind::Holder, 0, 0);
     }
     if outside(16, secret.len()) {
@@ -54,7 +48,7 @@ pub fn check_inputs(
     if bad_secret != 0 {
         return answer::refuse(Kind::Secret, bad_secret, 0);
     }
-    if random.len() != secret.len() * (k - 1) {
+    if random.len() != secret.len() * each {
         return answer::refuse(Kind::Random, 0, 0);
     }
     let bad_random = first_large(random);

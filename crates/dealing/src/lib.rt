@@ -5,46 +5,44 @@ mod checks;
 
 use answer::Answer;
 ghost use mathlib.Core.Path.{_≡_};
-ghost use Prim.Native.Nat.{_≤_};
+ghost use Prim.Native.Nat.{_-_, _≤_};
 ghost use lib.ListN.{length};
-ghost use Rattle.answer.specs.Outcome.{outcome};
+ghost use Rattle.answer.specs.Outcome.{outcome, done};
+ghost use Rattle.answer.specs.Checks.{firstFail};
 ghost use Rattle.answer.specs.Lent.{left};
 ghost use Rattle.planning.specs.Policy.{policyOf};
-ghost use Rattle.dealing.specs.Deal.{dealFrom};
-ghost use Rattle.dealing.specs.Dealt.{dealing, dealtInto};
-ghost use Rattle.dealing.specs.Rows.{inputsOf, cardIn, inputsSay};
+ghost use Rattle.dealing.specs.Deal.{dealFrom, cardOver};
+ghost use Rattle.dealing.specs.Dealt.{cardLines, dealing, dealtInto};
+ghost use Rattle.dealing.specs.Rows.{heldIn};
+
+// Which card is asked for: of which deal, whose, among so many people.
+pub struct Asked {
+    pub people: usize,
+    pub number: usize,
+    pub holder: usize,
+}
 
 // Refusals 8 to 12, or the holder's card, by the rows of the k pieces that were planned.
 fn deal_planned(
     rows: &[[bool; 8]; 70],
-    people: usize,
+    asked: Asked,
     k: usize,
-    deal_number: usize,
-    holder: usize,
     secret: &[u16],
     random: &[u16],
     out: &mut [u8],
 ) -> Answer
-    requires { ⌜ (people ≤ 8) × (1 ≤ k) × (k ≤ 70) ⌝ }
+    requires { ⌜ (asked .people ≤ 8) × (1 ≤ k) × (k ≤ 70) ⌝ }
     ensures says { λ r.
-        let t = inputsOf people k «deal_number» holder (now (secret .entry)) (now (random .entry)) in
-        ⌜ outcome r ≡ inputsSay (now (rows .entry)) t (length (now (out .entry))) ⌝ }
+        let blocks = length (heldIn (now (rows .entry)) (asked .holder) k) in
+        let lines = cardLines asked (k - 1) (now (secret .entry)) (now (random .entry)) blocks (length (now (out .entry))) in
+        ⌜ outcome r ≡ firstFail lines (done blocks) ⌝ }
     ensures leaves { λ r.
-        let t = inputsOf people k «deal_number» holder (now (secret .entry)) (now (random .entry)) in
-        ⌜ now (out .exit) ≡ left (outcome r) (cardIn (now (rows .entry)) t k) (now (out .entry)) ⌝ }
+        let card = cardOver asked k (now (secret .entry)) (now (random .entry)) (heldIn (now (rows .entry)) (asked .holder) k) in
+        ⌜ now (out .exit) ≡ left (outcome r) card (now (out .entry)) ⌝ }
 {
-    match checks::check_inputs(people, k, deal_number, holder, secret, random) {
+    match checks::check_inputs(asked, k - 1, secret, random) {
         Answer::Refused(r) => Answer::Refused(r),
-        Answer::Done(_) => card::write_card(
-            rows,
-            people,
-            k,
-            deal_number,
-            holder,
-            secret,
-            random,
-            out,
-        ),
+        Answer::Done(_) => card::write_card(rows, asked, k, secret, random, out),
     }
 }
 
@@ -60,10 +58,12 @@ pub fn deal(
     out: &mut [u8],
 ) -> Answer
     ensures says { λ r.
-        let d = dealFrom (policyOf people (now (required .entry)) (now (forbidden .entry))) «deal_number» (now (secret .entry)) (now (random .entry)) in
+        let policy = policyOf people (now (required .entry)) (now (forbidden .entry)) in
+        let d = dealFrom policy «deal_number» (now (secret .entry)) (now (random .entry)) in
         ⌜ outcome r ≡ dealing d holder (length (now (out .entry))) ⌝ }
     ensures leaves { λ r.
-        let d = dealFrom (policyOf people (now (required .entry)) (now (forbidden .entry))) «deal_number» (now (secret .entry)) (now (random .entry)) in
+        let policy = policyOf people (now (required .entry)) (now (forbidden .entry)) in
+        let d = dealFrom policy «deal_number» (now (secret .entry)) (now (random .entry)) in
         ⌜ now (out .exit) ≡ dealtInto d holder (now (out .entry)) ⌝ }
 {
     let plan = planning::plan(people, required, forbidden);
@@ -71,7 +71,12 @@ pub fn deal(
         Answer::Refused(r) => Answer::Refused(r),
         Answer::Done(k) => {
             let rows = planning::rows_of(plan);
-            deal_planned(&rows, people, k, deal_number, holder, secret, random, out)
+            let asked = Asked {
+                people: people,
+                number: deal_number,
+                holder: holder,
+            };
+            deal_planned(&rows, asked, k, secret, random, out)
         }
     }
 }

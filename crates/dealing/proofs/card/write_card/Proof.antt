@@ -8,30 +8,31 @@ use lib.ListN.{length}
 use borrow.Author.Needs.{needs}
 use Rattle.answer.specs.Outcome.{done}
 use Rattle.answer.proofs.LentLaws.{room-refused, room-given, refusal-keeps}
-use Rattle.dealing.specs.Rows.{inputsOf, heldIn}
-use Rattle.dealing.proofs.CardLaws.{held-few, Laid, laid-start, laid-skip, laid-take, laid-end, room-left}
+use Rattle.dealing.specs.Deal.{blockFor}
+use Rattle.dealing.specs.Rows.{heldIn}
+use Rattle.dealing.proofs.CardLaws.{held-few, block-size, Laid, laid-start, laid-skip, laid-take, laid-end, room-left}
 use Rattle.dealing.proofs.card.write_card.Statement.{statement}
 use Rattle.dealing.proofs.card.write_card.Tie as tie
 
 abbrev Inv-loop : tie.InvT-loop
-Inv-loop rows people k deal-number holder secret random out₀ blocks column at₀ row₀ out at row =
-    Laid rows (inputsOf people k deal-number holder secret random) out₀ out at row
+Inv-loop rows asked k secret random out₀ blocks column at₀ row₀ out at row = Laid (blockFor asked k secret random) rows (asked .holder) k out₀ out at row
 
 abbrev μ-loop : tie.MeasureT-loop
-μ-loop rows people k deal-number holder secret random out₀ blocks column at₀ row₀ out at row = k - row
+μ-loop rows asked k secret random out₀ blocks column at₀ row₀ out at row = k - row
+
+abbrev start : tie.At-loop Inv-loop μ-loop → tie.Start Inv-loop μ-loop
+start l = l .before .before .before .before .before .before .before
 
 -- what was lent has room for every block
 enough : (l : tie.At-loop Inv-loop μ-loop)
-    → let a = l .before .before .before .before .before .before .args in 512 * length (heldIn (a .rows .now) (a .holder) (a .k)) ≤ length (a .out .now)
-enough l = omega (arith, l .before .if1 .left, l .before .before .held-count .ensures)
+    → let a = start l .args in 512 * length (heldIn (a .rows .now) (a .asked .holder) (a .k)) ≤ length (a .out .now)
+enough l = omega (arith, l .before .before .if1 .left, l .before .before .before .held-count .ensures)
 
 -- and so for this one
 room : (c : tie.Then2 Inv-loop μ-loop) → c .before .before .before .loop .at + 512 ≤ length (c .before .before .before .loop .out)
 room c =
     let l = c .before .before .before in
-    let s = l .before .before .before .before .before .before in
-    room-left (s .args .rows .now) (s .pre) (s .args .out .now) (l .loop .out) (l .loop .at) (l .loop .row)
-    (c .before .before .loop-test .taken) (c .if2 .taken) (enough l) (l .loop .inv)
+    room-left (l .loop .inv) (block-size (start l .pre)) (c .before .before .loop-test .taken) (c .if2 .taken) (enough l)
 
 held-count-requires : tie.Need-held-count-requires Inv-loop μ-loop
 held-count-requires c κs =
@@ -41,7 +42,7 @@ held-count-requires c κs =
 mul-if1 : tie.Need-mul-if1 Inv-loop μ-loop
 mul-if1 c =
     let s = c .before .before .before .before in
-    omega (arith, c .held-count .ensures, held-few (s .args .rows .now) (s .args .holder) (s .args .k), s .pre .most)
+    omega (arith, c .held-count .ensures, held-few (s .args .rows .now) (s .args .asked .holder) (s .args .k), s .pre .most)
 
 refuse-requires : tie.Need-refuse-requires Inv-loop μ-loop
 refuse-requires c κs = search needs
@@ -49,27 +50,26 @@ refuse-requires c κs = search needs
 returns : tie.Need-returns Inv-loop μ-loop
 returns c =
     let h = c .before .before .held-count in
-    let s = c .before .before .before .before .before .before in
-    let n = length (heldIn (s .args .rows .now) (s .args .holder) (s .args .k)) in (
+    let s = c .before .before .before .before .before .before in (
       rw (← h .ensures) (c .refuse .ensures ∙ sym (room-refused (512 * h .result) (h .result) (length (s .args .out .now)) (done (h .result)) (c .before .if1 .taken))),
       sym (refusal-keeps _ 12 (h .result) 0 _ (s .args .out .now) (c .refuse .ensures)),
     )
 
 sub-column : tie.Need-sub-column Inv-loop μ-loop
-sub-column c = omega (arith, c .before .before .before .before .before .pre .holder-in .0)
+sub-column c = omega (arith, c .before .before .before .before .before .before .pre .holder-in .0)
 
 loop-holds : tie.Need-loop-holds Inv-loop μ-loop
-loop-holds c = laid-start _ (c .before .before .before .before .before .pre) _
+loop-holds c = laid-start _ _ _ _ _
 
 mul-if2 : tie.Need-mul-if2 Inv-loop μ-loop
 mul-if2 c = omega arith
 
 index-1-if2 : tie.Need-index-1-if2 Inv-loop μ-loop
-index-1-if2 c = omega (arith, c .before .before .before .before .before .before .before .pre .most)
+index-1-if2 c = omega (arith, start (c .before) .pre .most)
 
 index-2-if2 : tie.Need-index-2-if2 Inv-loop μ-loop
 index-2-if2 c =
-    let r = c .before .before .before .before .before .before .before .pre in
+    let r = start (c .before) .pre in
     omega (arith, r .holder-in .1, r .few)
 
 add-write-piece : tie.Need-add-write-piece Inv-loop μ-loop
@@ -77,8 +77,7 @@ add-write-piece c = omega arith
 
 write-piece-requires : tie.Need-write-piece-requires Inv-loop μ-loop
 write-piece-requires c κs =
-    let l = c .before .before .before .before in
-    (room (c .before), (l .before .before .before .before .before .before .pre, (omega arith, omega (arith, c .before .before .before .loop-test .taken))))
+    (room (c .before), (start (c .before .before .before .before) .pre, (omega arith, omega (arith, c .before .before .before .loop-test .taken))))
 
 add-at : tie.Need-add-at Inv-loop μ-loop
 add-at c = omega (arith, room (c .before .before .before .before))
@@ -92,15 +91,13 @@ loop-less c = omega arith
 loop-again : tie.Need-loop-again Inv-loop μ-loop
 loop-again c =
     let l = c .before .before .before in
-    let v = l .loop in
-    let s = l .before .before .before .before .before .before in
     let h = c .before .before .loop-test .taken in
     ⊎-elim
     (λ w.
     rw (w .6)
-    (laid-take (s .args .rows .now) (s .pre) (s .args .out .now) (v .out) (c .if2 .out) (v .at) (v .row) h (w .0 .taken) (enough l)
-    (w .5 ∙ w .2 .ensures) (v .inv)))
-    (λ w. rw (w .1, w .2) (laid-skip (s .args .rows .now) (s .pre) (s .args .out .now) (v .out) (v .at) (v .row) h (w .0 .left) (v .inv)))
+    (laid-take (l .loop .inv) (block-size (start l .pre)) h (w .0 .taken) (enough l) (c .if2 .out)
+    (w .5 ∙ w .2 .ensures)))
+    (λ w. rw (w .1, w .2) (laid-skip (l .loop .inv) h (w .0 .left)))
     (c .if2 .came)
 
 same-length : tie.Need-same-length Inv-loop μ-loop
@@ -109,12 +106,9 @@ same-length c = c .before .loop .inv .same
 returns-2 : tie.Need-returns-2 Inv-loop μ-loop
 returns-2 c =
     let l = c .before in
-    let v = l .loop in
-    let h = l .before .before .held-count in
-    let s = l .before .before .before .before .before .before in
-    let n = length (heldIn (s .args .rows .now) (s .args .holder) (s .args .k)) in (
-      rw (← h .ensures) (sym (room-given (512 * h .result) (h .result) (length (s .args .out .now)) (done (h .result)) (l .before .if1 .left))),
-      laid-end (s .args .rows .now) (s .pre) (s .args .out .now) (v .out) (v .at) (v .row) (c .loop-test .left) (v .inv),
+    let h = l .before .before .before .held-count in (
+      rw (← h .ensures) (sym (room-given (512 * h .result) (h .result) (length (start l .args .out .now)) (done (h .result)) (l .before .before .if1 .left))),
+      laid-end (l .loop .inv) (c .loop-test .left),
     )
 
 pub write-card-spec : {M : Type 1} → statement M

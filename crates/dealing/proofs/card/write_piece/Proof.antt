@@ -21,6 +21,12 @@ cast-values-of c = search needs
 values-of-requires : tie.Need-values-of-requires
 values-of-requires c κs = search needs
 
+cast-t13 : tie.Need-cast-t13
+cast-t13 c = search needs
+
+cast-t14 : tie.Need-cast-t14
+cast-t14 c = search needs
+
 cast-t15 : tie.Need-cast-t15
 cast-t15 c = search needs
 
@@ -33,33 +39,34 @@ cast-t17 c = search needs
 cast-t18 : tie.Need-cast-t18
 cast-t18 c = search needs
 
-cast-t19 : tie.Need-cast-t19
-cast-t19 c = search needs
-
-cast-t20 : tie.Need-cast-t20
-cast-t20 c = search needs
-
 array-share-prefix-made : tie.Need-array-share-prefix-made
 array-share-prefix-made c = search needs
 
+-- the place at which the values are made
+abbrev values : tie.After-made → tie.After-values-of
+values c = c .before .before .before .before .before
+
+abbrev start : tie.After-made → tie.Start
+start c = values c .before .before .before .before
+
 slice-aggregate-write-at : tie.Need-slice-aggregate-write-at
-slice-aggregate-write-at c = sym (length-take-le _ (c .before .before .values-of .result) (omega arith))
+slice-aggregate-write-at c = sym (length-take-le _ (values c .values-of .result) (omega arith))
 
 write-at-requires : tie.Need-write-at-requires
 write-at-requires c κs =
-    let s = c .before .before .before .before .before .before in
-    (s .pre .0, ready-builds (s .pre .1 .0) (s .args .j) _ (s .pre .1 .1 .0) (s .pre .1 .1 .1) (c .before .before .values-of .ensures))
+    let s = start c in
+    (s .pre .0, ready-builds (s .pre .1 .0) (s .args .j) _ (s .pre .1 .1 .0) (s .pre .1 .1 .1) (values c .values-of .ensures))
 
 same-length : tie.Need-same-length
 same-length c = search needs
 
 returns : tie.Need-returns
 returns c =
-    let v = c .before .before .before .before .before in
-    let s = v .before .before .before .before in
+    let m = c .before .before .before in
+    let s = start m in
     c .before .before .write-at .ensures
     ∙ ap (λ (b : List ℕ). take (s .args .at) (s .args .out .now) ++ over b (drop (s .args .at) (s .args .out .now)))
-    (block-is (s .pre .1 .0) (s .args .j) _ (v .values-of .ensures))
+    (block-is (s .pre .1 .0) (s .args .j) _ (values m .values-of .ensures))
 
 pub write-piece-spec : {M : Type 1} → statement M
 write-piece-spec =
@@ -68,12 +75,12 @@ write-piece-spec =
     sub-values-of
     cast-values-of
     values-of-requires
+    cast-t13
+    cast-t14
     cast-t15
     cast-t16
     cast-t17
     cast-t18
-    cast-t19
-    cast-t20
     array-share-prefix-made
     slice-aggregate-write-at
     write-at-requires

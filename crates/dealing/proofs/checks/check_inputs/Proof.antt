@@ -2,7 +2,7 @@
 -- Assumes nothing.
 use mathlib.Core.Path.{sym, _∙_}
 use mathlib.Core.List.{List, [], _∷_}
-use Prim.Native.Nat.{_-_, _*_, _≤_}
+use Prim.Native.Nat.{ℕ, _*_, _≤_}
 use native.Mathlib.Nat.{mul-le-mul}
 use native.Mathlib.Omega.{arith}
 use lib.ListN.{length}
@@ -11,50 +11,48 @@ use borrow.Author.Tests.{eq-eqb, ne-eqb}
 use Rattle.answer.specs.Checks.{Line}
 use Rattle.answer.proofs.SaysLaws.{said, Says, whole, passes, speaks, silent}
 use Rattle.planning.proofs.SomeLaws.{found-at, found-none}
+use Rattle.dealing.specs.declared.Asked.{Asked}
 use Rattle.dealing.specs.Dealt.{badNumber, badHolder, badWidth, badSecret, badCount, badRandom, inputLines}
-use Rattle.dealing.specs.Rows.{Inputs, inputsOf}
 use Rattle.dealing.proofs.InputLaws.{in-range}
 use Rattle.dealing.proofs.checks.check_inputs.Statement.{statement}
 use Rattle.dealing.proofs.checks.check_inputs.Tie as tie
 
--- the lines that are left after the first, the second ..
-abbrev left5 : Inputs → List Line
-left5 t = badRandom (t .random) ∷ []
+-- the lines that are left after the first, the second ..; what is checked is `asked`, `each`, the secret and the randomness
+module _ (asked : Asked) (each : ℕ) (secret random : List ℕ) where
+  abbrev left6 : List Line
+  left6 = []
 
-abbrev left4 : Inputs → List Line
-left4 t = badCount (t .pieces) (t .secret) (t .random) ∷ left5 t
+  abbrev left5 : List Line
+  left5 = badRandom random ∷ left6
 
-abbrev left3 : Inputs → List Line
-left3 t = badSecret (t .secret) ∷ left4 t
+  abbrev left4 : List Line
+  left4 = badCount each secret random ∷ left5
 
-abbrev left2 : Inputs → List Line
-left2 t = badWidth (t .secret) ∷ left3 t
+  abbrev left3 : List Line
+  left3 = badSecret secret ∷ left4
 
-abbrev left1 : Inputs → List Line
-left1 t = badHolder (t .people) (t .holder) ∷ left2 t
+  abbrev left2 : List Line
+  left2 = badWidth secret ∷ left3
 
-abbrev left0 : Inputs → List Line
-left0 t = badNumber (t .number) ∷ left1 t
+  abbrev left1 : List Line
+  left1 = badHolder (asked .people) (asked .holder) ∷ left2
 
-abbrev left6 : Inputs → List Line
-left6 t = []
+  abbrev left0 : List Line
+  left0 = badNumber (asked .number) ∷ left1
 
--- what is checked, and: all lines say what those that are left say
-abbrev checked : tie.Start → Inputs
-checked s = inputsOf (s .args .people) (s .args .k) (s .args .deal-number) (s .args .holder) (s .args .secret .now) (s .args .random .now)
+  on0 : Says (said (inputLines asked each secret random)) left0
+  unfolding inputLines
+  on0 = whole _
 
-abbrev Left : tie.Start → (Inputs → List Line) → Type 0
+-- all lines say what those that are left say
+abbrev Left : tie.Start → (Asked → ℕ → List ℕ → List ℕ → List Line) → Type 0
 Left s rest =
-    Says (said (inputLines (s .args .people) (s .args .k) (s .args .deal-number) (s .args .holder) (s .args .secret .now) (s .args .random .now)))
-    (rest (checked s))
-
-on0 : (t : Inputs) → Says (said (inputLines (t .people) (t .pieces) (t .number) (t .holder) (t .secret) (t .random))) (left0 t)
-unfolding inputLines
-on0 t = whole _
+    Says (said (inputLines (s .args .asked) (s .args .each) (s .args .secret .now) (s .args .random .now)))
+    (rest (s .args .asked) (s .args .each) (s .args .secret .now) (s .args .random .now))
 
 on1 : (c : tie.Else1) → Left (c .before .before .before .before) left1
 unfolding badNumber
-on1 c = passes (on0 (checked (c .before .before .before .before))) (sym (c .before .outside .ensures) ∙ c .if1 .left)
+on1 c = passes (on0 _ _ _ _) (sym (c .before .outside .ensures) ∙ c .if1 .left)
 
 on2 : (c : tie.Else2) → Left (c .before .before .before .before .before .before) left2
 unfolding badHolder
@@ -76,14 +74,13 @@ on6 : (c : tie.Else6) → Left (c .before .before .before .before .before .befor
 unfolding badRandom
 on6 c = passes (on5 (c .before .before)) (found-none (c .before .first-large2 .ensures) (c .if6 .left))
 
--- at most 16 words with at most 69 coefficients each
+-- at most 16 words with at most 4096 coefficients each
 few : (c : tie.Else4)
-    → let a = c .before .before .before .before .before .before .before .before .before .before .args in length (a .secret .now) * (a .k - 1) ≤ 16 * 70
+    → let a = c .before .before .before .before .before .before .before .before .before .before .args in length (a .secret .now) * a .each ≤ 16 * 4096
 few c =
     let w = c .before .before in
     let s = w .before .before .before .before .before .before .before .before in
-    let most : s .args .k - 1 ≤ 70 = omega arith in
-    mul-le-mul (in-range 16 (length (s .args .secret .now)) (sym (w .before .outside3 .ensures) ∙ w .if3 .left) .1) most
+    mul-le-mul (in-range 16 (length (s .args .secret .now)) (sym (w .before .outside3 .ensures) ∙ w .if3 .left) .1) (s .pre)
 
 outside-requires : tie.Need-outside-requires
 outside-requires c κs = search needs
@@ -93,7 +90,7 @@ refuse-requires c κs = search needs
 
 returns : tie.Need-returns
 unfolding badNumber
-returns c = c .refuse .ensures ∙ speaks (on0 (checked (c .before .before .before .before .before))) (sym (c .before .before .outside .ensures) ∙ c .before .if1 .taken)
+returns c = c .refuse .ensures ∙ speaks (on0 _ _ _ _) (sym (c .before .before .outside .ensures) ∙ c .before .if1 .taken)
 
 outside-requires-2 : tie.Need-outside-requires-2
 outside-requires-2 c κs = search needs
@@ -126,9 +123,6 @@ unfolding badSecret
 returns-4 c =
     let found = c .before .before .first-large .ensures in
     c .refuse4 .ensures ∙ rw found (speaks (on3 (c .before .before .before)) (found-at found (c .before .if4 .taken)))
-
-sub-if5 : tie.Need-sub-if5
-sub-if5 c = search needs
 
 mul-if5 : tie.Need-mul-if5
 mul-if5 c = omega (arith, few c)
@@ -171,7 +165,6 @@ check-inputs-spec =
     first-large-requires
     refuse-requires-4
     returns-4
-    sub-if5
     mul-if5
     refuse-requires-5
     returns-5
