@@ -14,7 +14,7 @@ use Rattle.field.specs.Pieces.{values}
 use Rattle.field.proofs.ValuesLaws.{values-length, values-below}
 use Rattle.planning.specs.Groups.{marked}
 use Rattle.block.specs.Written.{blockBytes, Buildable}
-use Rattle.block.proofs.BodyLaws.{length-block}
+use Rattle.block.proofs.BodyLaws.{length-block, builds}
 use Rattle.dealing.specs.declared.Asked.{Asked}
 use Rattle.dealing.specs.Deal.{labelFor, blockFor, flat}
 use Rattle.dealing.specs.Rows.{Ready, heldIn}
@@ -49,29 +49,30 @@ module _ (rows : List (List Bool)) (holder : ℕ) where
   held-more c k h = those-more (λ j. not (marked rows j holder)) 1 c k h
 
 -- ---- one block
-module _ {asked : Asked} {k : ℕ} {secret random : List ℕ} (r : Ready asked k secret random) (j : ℕ) where
-  pub ready-builds : (vs : List ℕ) → 1 ≤ j → j ≤ k → vs ≡ values (k - 1) secret random j → Buildable (labelFor asked k (length secret) j) vs
-  ready-builds vs l u e =
-      record {
-        mark-in = refl;
-        deal-in = r .number-in;
-        holder-in = r .holder-in;
-        people-in = r .few;
-        pieces-in = r .most;
-        width-in = (r .width-in .0, r .width-in .1, sym (ap length e ∙ values-length (k - 1) secret random j));
-        piece-in = (l, u);
-        values-in = record { small = λ i. rw e (omega (arith, values-below (k - 1) secret random j .each i)) };
-      }
-
+module _ (asked : Asked) (k : ℕ) (secret random : List ℕ) (j : ℕ) where
   pub block-is : (vs : List ℕ) → vs ≡ values (k - 1) secret random j → blockBytes (labelFor asked k (length secret) j) vs ≡ blockFor asked k secret random j
   unfolding blockFor
   block-is vs e = ap (blockBytes (labelFor asked k (length secret) j)) e
 
   pub block-size : length (blockFor asked k secret random j) ≡ 512
   unfolding blockFor
-  block-size =
-      length-block (labelFor asked k (length secret) j) (values (k - 1) secret random j)
-      (omega (arith, values-length (k - 1) secret random j, r .width-in .1))
+  block-size = length-block (labelFor asked k (length secret) j) (values (k - 1) secret random j)
+
+pub ready-builds : {asked : Asked} {k : ℕ} {secret random : List ℕ} → Ready asked k secret random → (j : ℕ) (vs : List ℕ) → 1 ≤ j → j ≤ k
+    → vs ≡ values (k - 1) secret random j → Buildable (labelFor asked k (length secret) j) vs
+ready-builds {asked} {k} {secret} {random} r j vs l u e =
+    builds (labelFor asked k (length secret) j) vs
+    (record {
+      number = r .number-in .0;
+      holder = (r .holder-in .0, omega (arith, r .holder-in .1, r .few));
+      people = (omega (arith, r .holder-in .0, r .holder-in .1), r .few, r .holder-in .1);
+      pieces = (r .least, r .most);
+      width = r .width-in;
+      piece = (l, u);
+    })
+    (r .number-in .1)
+    (λ i. rw e (omega (arith, values-below (k - 1) secret random j .each i)))
+    (sym (ap length e ∙ values-length (k - 1) secret random j))
 
 -- ---- blocks one after another
 pub flat-append : (xs ys : List (List ℕ)) → flat (xs ++ ys) ≡ flat xs ++ flat ys

@@ -14,7 +14,7 @@ pub blocks-open : law.BlocksOpen
 blocks-open d m holder j l u h = made.blocks-open d (made.made-in-range d m) holder l u j h
 
 pub card-length : law.CardLength
-card-length d m holder l u = made.card-length d (made.made-in-range d m) holder l u
+card-length = made.card-length
 
 pub deals-all : law.DealsAll
 deals-all d m holder l u = made.deals-all d (made.made-in-range d m) holder l u

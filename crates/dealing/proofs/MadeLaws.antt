@@ -6,6 +6,7 @@ use mathlib.Core.List.{List, [], _∷_, _++_}
 use native.Mathlib.Omega.{arith}
 use lib.ListN.{length, drop}
 use borrow.Author.Tests.{ltb-false}
+use Rattle.lists.specs.Run.{run}
 use Rattle.answer.specs.Outcome.{done}
 use Rattle.answer.specs.Laws.{Passed}
 use Rattle.answer.specs.Lent.{noRoom, over}
@@ -17,7 +18,8 @@ use Rattle.planning.specs.Groups as planning
 use Rattle.planning.specs.Groups.{_∈_}
 use Rattle.planning.specs.Planned.{planLines, planned}
 use Rattle.block.specs.Words.{bytesOf}
-use Rattle.block.specs.Open.{opening, valueBytes, wordsOf, TrueBlock}
+use Rattle.block.specs.Layout.{heldAt}
+use Rattle.block.specs.Open.{opening, valueBytes, TrueBlock}
 use Rattle.block.specs.Written.{Buildable}
 use Rattle.block.proofs.Laws.{opens-written}
 use Rattle.dealing.specs.Deal.{Deal, again, blockFor, askedOf, pieceCount, held, values, label, blockOf, card}
@@ -83,6 +85,16 @@ pub made-holder : (d : Deal) (m : Made d) → (1 ≤ m .holder) × (m .holder �
 unfolding made-in-range
 made-holder d m = made-in-range d m .ready .holder-in
 
+-- ---- a card: blocks of 512 bytes
+module _ (d : Deal) (holder : ℕ) where
+  pub block-length : (j : ℕ) → length (blockOf d holder j) ≡ 512
+  unfolding blockOf
+  block-length j = block-size _ _ _ _ j
+
+  pub card-length : length (card d holder) ≡ 512 * blockCount d holder
+  unfolding card blockOf blockCount
+  card-length = flat-size (blockOf d holder) block-length (held d holder)
+
 module _ (d : Deal) (f : InRange d) (holder : ℕ) (least : 1 ≤ holder) (most : holder ≤ d .policy .people) where
   ready : Ready (askedOf d holder) (pieceCount d) (d .secret) (d .random)
   ready = ready-with d f holder (least, most) (d .secret) (d .random) refl (f .ready .secret-in) (f .ready .random-in)
@@ -97,15 +109,6 @@ module _ (d : Deal) (f : InRange d) (holder : ℕ) (least : 1 ≤ holder) (most 
   pub deals-all : (room : ℕ) → 512 * blockCount d holder ≤ room → dealing d holder room ≡ done (blockCount d holder)
   deals-all room h = only-room room ∙ lent.room-given (512 * blockCount d holder) (blockCount d holder) room (done (blockCount d holder)) h
 
-  -- ---- its card: blocks of 512 bytes
-  pub block-length : (j : ℕ) → length (blockOf d holder j) ≡ 512
-  unfolding blockOf
-  block-length j = block-size ready j
-
-  pub card-length : length (card d holder) ≡ 512 * blockCount d holder
-  unfolding card blockOf blockCount
-  card-length = flat-size (blockOf d holder) block-length (held d holder)
-
   -- ---- each of them is true, and opens
   pub buildable : (j : ℕ) → j ∈ held d holder → Buildable (label d holder j) (values d j)
   unfolding label values
@@ -113,7 +116,7 @@ module _ (d : Deal) (f : InRange d) (holder : ℕ) (least : 1 ≤ holder) (most 
 
   pub blocks-open : (j : ℕ) → j ∈ held d holder → (rest : List ℕ)
       → TrueBlock (blockOf d holder j ++ rest)
-      × (opening (blockOf d holder j ++ rest) ≡ done (wordsOf (label d holder j)))
+      × (opening (blockOf d holder j ++ rest) ≡ done (run (heldAt (label d holder j) (values d j)) 1 7))
       × (valueBytes (blockOf d holder j ++ rest) ≡ bytesOf (values d j))
   unfolding blockOf blockFor label values
   blocks-open j m rest = opens-written (label d holder j) (values d j) rest (buildable j m)
@@ -139,9 +142,7 @@ module _ (d : Deal) (holder : ℕ) (out : List ℕ) (blocks : ℕ) (e : dealing 
       × (dealtInto d holder out ≡ card d holder ++ drop (512 * blocks) out)
   unfolding dealtInto over made
   result-writes =
-      let h = made-holder d made in
-      let n : length (card d holder) ≡ 512 * blocks
-      = card-length d (made-in-range d made) holder (h .0) (h .1) ∙ ap (λ (x : ℕ). 512 * x) (sym dealt-count) in (
+      let n : length (card d holder) ≡ 512 * blocks = card-length d holder ∙ ap (λ (x : ℕ). 512 * x) (sym dealt-count) in (
         dealt-count,
         n,
         omega (arith, dealt-count, room-enough),

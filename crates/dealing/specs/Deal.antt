@@ -6,7 +6,7 @@ use lib.ListN.{length}
 use Rattle.field.specs.Pieces.{values as valuesIn}
 use Rattle.planning.specs.Groups as planning
 use Rattle.planning.specs.Policy.{Policy}
-use Rattle.block.specs.declared.Words.{Words}
+use Rattle.block.specs.declared.Label.{Label}
 use Rattle.block.specs.Written.{blockBytes}
 use Rattle.dealing.specs.declared.Asked.{Asked}
 
@@ -26,16 +26,12 @@ abbrev pub again : Deal → List ℕ → List ℕ → Deal
 again d secret random = dealFrom (d .policy) (d .number) secret random
 
 -- ---- a card of k pieces: from what is asked, k, the secret and the randomness
--- words 1 to 7 of the block of piece j, where the secret has so many words
-abbrev pub labelFor : Asked → ℕ → ℕ → ℕ → Words
+-- the label of the block of piece j, where the secret has so many words
+abbrev pub labelFor : Asked → ℕ → ℕ → ℕ → Label
 labelFor asked k width j =
     record {
-      mark = 1987;
-      deal = asked .number;
+      deal = record { number = asked .number; people = asked .people; pieces = k; width = width };
       holder = asked .holder;
-      people = asked .people;
-      pieces = k;
-      width = width;
       piece = j;
     }
 
@@ -69,8 +65,8 @@ held d holder = planning.held (d .policy .people) (d .policy .required) holder
 unfoldable pub values : Deal → ℕ → List ℕ
 values d j = valuesIn (pieceCount d - 1) (d .secret) (d .random) j
 
--- words 1 to 7 of the block of piece j on the holder's card
-unfoldable pub label : Deal → ℕ → ℕ → Words
+-- the label of the block of piece j on the holder's card
+unfoldable pub label : Deal → ℕ → ℕ → Label
 label d holder j = labelFor (askedOf d holder) (pieceCount d) (length (d .secret)) j
 
 -- that block

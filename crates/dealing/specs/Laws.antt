@@ -4,10 +4,12 @@ use Prim.Native.Nat.{ℕ, _*_, _≤_}
 use mathlib.Core.Path.{_≡_}
 use mathlib.Core.List.{List, _++_}
 use lib.ListN.{length, drop}
+use Rattle.lists.specs.Run.{run}
 use Rattle.answer.specs.Outcome.{done, refused}
 use Rattle.planning.specs.Groups.{_∈_}
 use Rattle.block.specs.Words.{bytesOf}
-use Rattle.block.specs.Open.{opening, valueBytes, wordsOf, TrueBlock}
+use Rattle.block.specs.Layout.{heldAt}
+use Rattle.block.specs.Open.{opening, valueBytes, TrueBlock}
 use Rattle.dealing.specs.Deal.{Deal, askedOf, held, values, label, blockOf, card}
 use Rattle.dealing.specs.Dealt.{Made, blockCount, dealing, dealtInto}
 
@@ -24,12 +26,12 @@ CardDepends = (d d′ : Deal) (holder : ℕ)
 abbrev pub BlocksOpen : Type 0
 BlocksOpen = (d : Deal) → Made d → (holder j : ℕ) → 1 ≤ holder → holder ≤ d .policy .people → j ∈ held d holder → (rest : List ℕ)
     → TrueBlock (blockOf d holder j ++ rest)
-    × (opening (blockOf d holder j ++ rest) ≡ done (wordsOf (label d holder j)))
+    × (opening (blockOf d holder j ++ rest) ≡ done (run (heldAt (label d holder j) (values d j)) 1 7))
     × (valueBytes (blockOf d holder j ++ rest) ≡ bytesOf (values d j))
 
 -- "A card is one block of 512 bytes for each piece held."
 abbrev pub CardLength : Type 0
-CardLength = (d : Deal) → Made d → (holder : ℕ) → 1 ≤ holder → holder ≤ d .policy .people → length (card d holder) ≡ 512 * blockCount d holder
+CardLength = (d : Deal) (holder : ℕ) → length (card d holder) ≡ 512 * blockCount d holder
 
 -- A deal of which one card was dealt can deal every card: only the room is left to check.
 abbrev pub DealsAll : Type 0

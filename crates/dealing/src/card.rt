@@ -2,7 +2,8 @@
 use crate::Asked;
 use answer::Answer;
 use answer::Kind;
-use block::Words;
+use block::DealWords;
+use block::Label;
 ghost use mathlib.Core.Path.{_≡_};
 ghost use mathlib.Core.List.{_++_};
 ghost use Prim.Native.Nat.{_+_, _*_, _≤_};
@@ -48,16 +49,18 @@ fn write_piece(
 {
     let width = secret.len();
     let made = field::values_of(secret, random, k - 1, j as u16);
-    let h = Words {
-        mark: 1987,
-        deal: asked.number as u16,
-        holder: asked.holder as u16,
+    let deal = DealWords {
+        number: asked.number as u16,
         people: asked.people as u16,
         pieces: k as u16,
         width: width as u16,
+    };
+    let label = Label {
+        deal: deal,
+        holder: asked.holder as u16,
         piece: j as u16,
     };
-    block::write_at(out, at, h, &made[..width]);
+    block::write_at(out, at, label, &made[..width]);
 }
 
 // Refusal 12, or the holder's card, written over the front of what is lent, and how many blocks it has.

@@ -1,8 +1,8 @@
 // P11's block, byte by byte, and what opening says of it: as it is, in a shorter and a longer pile, and with one word changed.
 // What it prints is compared with `stdout`.
-use block::Opened;
 use block::DealWords;
 use block::Label;
+use block::Opened;
 ghost use mathlib.Core.Path.{_≡_};
 ghost use Prim.Native.Nat.{_≤_};
 ghost use lib.ListN.{length};

@@ -32,7 +32,7 @@ enough l = omega (arith, l .before .before .if1 .left, l .before .before .before
 room : (c : tie.Then2 Inv-loop μ-loop) → c .before .before .before .loop .at + 512 ≤ length (c .before .before .before .loop .out)
 room c =
     let l = c .before .before .before in
-    room-left (l .loop .inv) (block-size (start l .pre)) (c .before .before .loop-test .taken) (c .if2 .taken) (enough l)
+    room-left (l .loop .inv) (block-size _ _ _ _) (c .before .before .loop-test .taken) (c .if2 .taken) (enough l)
 
 held-count-requires : tie.Need-held-count-requires Inv-loop μ-loop
 held-count-requires c κs =
@@ -95,7 +95,7 @@ loop-again c =
     ⊎-elim
     (λ w.
     rw (w .6)
-    (laid-take (l .loop .inv) (block-size (start l .pre)) h (w .0 .taken) (enough l) (c .if2 .out)
+    (laid-take (l .loop .inv) (block-size _ _ _ _) h (w .0 .taken) (enough l) (c .if2 .out)
     (w .5 ∙ w .2 .ensures)))
     (λ w. rw (w .1, w .2) (laid-skip (l .loop .inv) h (w .0 .left)))
     (c .if2 .came)

@@ -21,9 +21,6 @@ cast-values-of c = search needs
 values-of-requires : tie.Need-values-of-requires
 values-of-requires c κs = search needs
 
-cast-t13 : tie.Need-cast-t13
-cast-t13 c = search needs
-
 cast-t14 : tie.Need-cast-t14
 cast-t14 c = search needs
 
@@ -36,8 +33,11 @@ cast-t16 c = search needs
 cast-t17 : tie.Need-cast-t17
 cast-t17 c = search needs
 
-cast-t18 : tie.Need-cast-t18
-cast-t18 c = search needs
+cast-t14-2 : tie.Need-cast-t14-2
+cast-t14-2 c = search needs
+
+cast-t17-2 : tie.Need-cast-t17-2
+cast-t17-2 c = search needs
 
 array-share-prefix-made : tie.Need-array-share-prefix-made
 array-share-prefix-made c = search needs
@@ -66,7 +66,7 @@ returns c =
     let s = start m in
     c .before .before .write-at .ensures
     ∙ ap (λ (b : List ℕ). take (s .args .at) (s .args .out .now) ++ over b (drop (s .args .at) (s .args .out .now)))
-    (block-is (s .pre .1 .0) (s .args .j) _ (values m .values-of .ensures))
+    (block-is (s .args .asked) (s .args .k) (s .args .secret .now) (s .args .random .now) (s .args .j) _ (values m .values-of .ensures))
 
 pub write-piece-spec : {M : Type 1} → statement M
 write-piece-spec =
@@ -75,12 +75,12 @@ write-piece-spec =
     sub-values-of
     cast-values-of
     values-of-requires
-    cast-t13
     cast-t14
     cast-t15
     cast-t16
     cast-t17
-    cast-t18
+    cast-t14-2
+    cast-t17-2
     array-share-prefix-made
     slice-aggregate-write-at
     write-at-requires
