@@ -5,6 +5,7 @@ use mathlib.Core.List.{List}
 use Prim.Native.Nat.{ℕ, _*_, _≤_}
 use native.Mathlib.Omega.{arith}
 use lib.ListN.{length}
+use Rattle.lists.specs.Run.{run}
 use Rattle.answer.specs.Outcome.{done, refused}
 use Rattle.answer.specs.Checks.{firstFail}
 use Rattle.answer.specs.Places.{firstFrom, firstPlace, those}
@@ -16,10 +17,10 @@ use Rattle.planning.specs.Groups as planning
 use Rattle.planning.specs.Groups.{some, authorised, tight, maximalBy, groupsBy, holds}
 use Rattle.planning.specs.Planned.{people, long, strangers, nobody, opens, clashPlace, clash, wide, listLines, planLines}
 use Rattle.block.specs.Words.{wordAt, bytesOf, weighted, checkOf}
-use Rattle.block.specs.Layout.{rightAt, firstWrong}
+use Rattle.block.specs.Layout.{heldAt, rangeAt, valuesOf, rightAt, firstWrong}
 use Rattle.block.specs.Open.{firstAbove}
 use Rattle.block.specs.Written.{body, blockBytes}
-use Rattle.dealing.specs.Deal.{pieceCount, held, values, header, blockOf, flat, cardBlocks, card}
+use Rattle.dealing.specs.Deal.{blockFor, flat, pieceCount, held, card}
 use Rattle.dealing.specs.Dealt.{badNumber, badHolder, badWidth, badSecret, badCount, badRandom, inputLines, blockCount, dealLines, dealing, Made}
 use Rattle.dealing.proofs.Laws as law
 use Rattle.joining.specs.Pile.{blocks, restFrom, sameWords, sameDeal, placeOf, differIn, present}
@@ -39,7 +40,7 @@ made = record { holder = 4; room = 512; blocks = 1; answer = refl }
 
 -- every byte of that block
 pub the-block : card deal11 4 ≡ bytesOf words11
-unfolding card cardBlocks flat blockOf header values held pieceCount valuesIn value planning.held holds groupsBy those maximalBy tight authorised some each inside member set blockBytes body bytesOf checkOf weighted wordAt
+unfolding card flat blockFor held pieceCount valuesIn value planning.held holds groupsBy those maximalBy tight authorised some each inside member set blockBytes body run heldAt bytesOf checkOf weighted wordAt
 the-block = refl
 
 -- it is dealt into every output that has room for it
@@ -50,5 +51,5 @@ dealt out room =
 
 -- no output is too short for SHORT: ROOM comes after it
 pub short-two : (room : ℕ) → joining pile12 room ≡ refused 20 2 3
-unfolding joining joinLines linesFrom everyBlock mixedAt contradicts contradictedBy conflictAt blocks restFrom sameWords sameDeal placeOf differIn present firstFail firstFrom firstAbove rightAt firstWrong card cardBlocks flat blockOf header values held pieceCount valuesIn value planning.held holds groupsBy those maximalBy tight authorised some each inside member set blockBytes body bytesOf checkOf weighted wordAt
+unfolding joining joinLines linesFrom everyBlock mixedAt contradicts contradictedBy conflictAt blocks restFrom sameWords sameDeal placeOf differIn present firstFail firstFrom firstAbove rangeAt valuesOf rightAt firstWrong card flat blockFor held pieceCount valuesIn value planning.held holds groupsBy those maximalBy tight authorised some each inside member set blockBytes body run heldAt bytesOf checkOf weighted wordAt
 short-two room = refl

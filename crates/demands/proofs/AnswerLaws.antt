@@ -40,11 +40,11 @@ module _ (d : Deal) (f : InRange d) (g : ℕ) (group : Group d g) (pile : List �
   -- ---- every piece is there
   module _ (c : Contains d g) where
     held-by : (j : ℕ) → 1 ≤ j → j ≤ pieceCount d → (i : ℕ) × Member d g i × (j ∈ held d i)
-    held-by = all-held d g (f .few) group c
+    held-by = all-held d g (f .ready .few) group c
 
     some-block : 1 ≤ blocks pile
     some-block =
-        let m = held-by 1 (le-refl 1) (f .least) in
+        let m = held-by 1 (le-refl 1) (f .ready .least) in
         let a = r .all (m .0) 1 (m .1) (m .2) in
         omega (arith, a .1 .0, a .1 .1)
 
@@ -73,7 +73,7 @@ module _ (d : Deal) (f : InRange d) (g : ℕ) (group : Group d g) (pile : List �
         sym (ap joined
         (rw (pieces-are r some-block)
         (run-same (λ j. valueOf pile (placeOf pile j) i) (λ j. getD (values d j) (i - 1) 0) (pieceCount d) (λ j l′ u′. value-there i j l u l′ u′)))
-        ∙ round-trip-words (pieceCount d) (d .secret) (d .random) (f .least) (f .secret-in) (f .random-in) i l u)
+        ∙ round-trip-words (pieceCount d) (d .secret) (d .random) (f .ready .least) (f .ready .secret-in) (f .ready .random-in) i l u)
 
     pub secret-is : secret pile ≡ d .secret
     unfolding secret
@@ -110,7 +110,7 @@ module _ (d : Deal) (f : InRange d) (g : ℕ) (group : Group d g) (pile : List �
 
     short-some : 1 ≤ blocks pile → joining pile room ≡ shortOf (length (gathered d g)) (pieceCount d)
     short-some some =
-        let l = not-gathered d g (f .few) group n in
+        let l = not-gathered d g (f .ready .few) group n in
         lacks-then pile room (l .0) (sound r) some (l .1) (omega (arith, l .2, pieces-are r some)) (no-place r (l .0) (l .3))
         ∙ ap₂ (λ (x : List ℕ) (k : ℕ). refused 20 (length x) k) (present-are r some) (pieces-are r some)
         ∙ short-says (length (gathered d g)) (pieceCount d) (some-held some)

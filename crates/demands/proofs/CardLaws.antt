@@ -21,21 +21,22 @@ map-at f [] a h = absurd (not-suc-le-zero h)
 map-at f (x ∷ l) zero h = refl
 map-at f (x ∷ l) (suc a) h = map-at f l a (le-of-suc-le-suc h)
 
-module _ (d : Deal) (f : InRange d) (holder : ℕ) (least : 1 ≤ holder) (most : holder ≤ d .policy .people) where
-  pub card-long : Long (cardBlocks d holder)
+module _ (d : Deal) where
+  pub card-long : (holder : ℕ) → Long (cardBlocks d holder)
   unfolding cardBlocks
-  card-long = record {
-    long = λ b m. let r = Memᴰ·of-map (blockOf d holder) (held d holder) m in ap length (sym (r .2)) ∙ block-length d f holder least most (r .0);
+  card-long holder = record {
+    long = λ b m. let r = Memᴰ·of-map (blockOf d holder) (held d holder) m in ap length (sym (r .2)) ∙ block-length d holder (r .0);
   }
 
+  pub cards-long : (g : ℕ) (bs : List (List ℕ)) → CardsOf (cardBlocks d) (Member d g) bs → Long bs
+  cards-long g bs c = record { long = λ b m. let r = c .theirs b m in card-long (r .0) .long b (r .2) }
+
+module _ (d : Deal) (f : InRange d) (holder : ℕ) (least : 1 ≤ holder) (most : holder ≤ d .policy .people) where
   pub block-at : (a : ℕ) → 1 ≤ a → a ≤ length (held d holder) → CardBlock d holder (at (held d holder) a) (drop (512 * (a - 1)) (card d holder))
-  unfolding card cardBlocks
+  unfolding card cardBlocks blockOf
   block-at a l u =
       let j = at (held d holder) a in
-      let r = flat-drop (cardBlocks d holder) card-long (a - 1) (omega (arith, length-map (held d holder) (blockOf d holder))) in
+      let r = flat-drop (cardBlocks d holder) (card-long d holder) (a - 1) (omega (arith, length-map (held d holder) (blockOf d holder))) in
       let q : drop (512 * (a - 1)) (card d holder) ≡ blockOf d holder j ++ r .0
       = r .1 ∙ ap (λ (b : List ℕ). b ++ r .0) (map-at (blockOf d holder) (held d holder) (a - 1) (omega arith)) in
       rw q (card-block d f holder j least most (at-in 0 (held d holder) (a - 1) (omega arith)) (r .0))
-
-pub cards-long : (d : Deal) → InRange d → (g : ℕ) (bs : List (List ℕ)) → CardsOf (cardBlocks d) (Member d g) bs → Long bs
-cards-long d f g bs c = record { long = λ b m. let r = c .theirs b m in card-long d f (r .0) (r .1 .least) (r .1 .most) .long b (r .2) }

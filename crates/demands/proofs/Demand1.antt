@@ -22,7 +22,7 @@ use Rattle.demands.proofs.UnreadLaws.{unread}
 -- ---- a result or a refusal
 pub plan-ends : demand.PlanEnds
 unfolding planned
-plan-ends n required forbidden = ends (planLines n required forbidden) (pieceCount n required)
+plan-ends p = ends (planLines p) (pieceCount (p .people) (p .required))
 
 pub deal-ends : demand.DealEnds
 unfolding dealing
@@ -39,7 +39,7 @@ open-ends pile = ends (demand.openLines pile) (headerOf pile)
 -- ---- the order
 pub plan-order : demand.PlanOrder
 unfolding planLines listLines people long strangers nobody opens clash wide
-plan-order n required forbidden = refl
+plan-order p = refl
 
 pub deal-order : demand.DealOrder
 unfolding dealLines planLines listLines people long strangers nobody opens clash wide inputLines badNumber badHolder badWidth badSecret badCount badRandom noRoom
@@ -55,9 +55,8 @@ open-order pile = refl
 -- ---- the refusals of each call
 pub plan-refuses : demand.PlanRefuses
 unfolding planned some
-plan-refuses n required forbidden m a b e =
-    refuses 1 7 (planLines n required forbidden) (1 ∷ 2 ∷ 2 ∷ 3 ∷ 3 ∷ 4 ∷ 5 ∷ 6 ∷ 7 ∷ []) (pieceCount n required) m a b
-    (plan-order n required forbidden) refl e
+plan-refuses p m a b e =
+    refuses 1 7 (planLines p) (1 ∷ 2 ∷ 2 ∷ 3 ∷ 3 ∷ 4 ∷ 5 ∷ 6 ∷ 7 ∷ []) (pieceCount (p .people) (p .required)) m a b (plan-order p) refl e
 
 pub deal-refuses : demand.DealRefuses
 unfolding dealing some
@@ -94,4 +93,4 @@ join-unread pile room a i whole few k t l u h = unread pile a i l u h room whole
 pub deal-small : demand.DealSmall
 deal-small d holder room blocks e =
     let f = made-in-range d (record { holder = holder; room = room; blocks = blocks; answer = e }) in
-    (f .secret-in, f .random-in .below)
+    (f .ready .secret-in, f .ready .random-in .below)

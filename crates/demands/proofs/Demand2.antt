@@ -48,7 +48,7 @@ who-holds d i = (
 )
 
 pub who-opens : demand.WhoOpens
-who-opens d made g group = let few = made-in-range d made .few in (all-held d g few group, held-all d g few group)
+who-opens d made g group = let few = made-in-range d made .ready .few in (all-held d g few group, held-all d g few group)
 
 pub one-block : demand.OneBlock
 one-block d holder j b c x y = each-word x y
@@ -62,7 +62,7 @@ every-byte d holder out blocks e =
     (r .0, r .1, λ a l u. block-at d (made-in-range d made) holder (h .0) (h .1) a l (omega (arith, r .0)), r .3)
 
 pub clash-exactly : demand.ClashExactly
-clash-exactly n required forbidden p = let r = planning.clash-families n required forbidden p in (r .2, r .0, r .1)
+clash-exactly p h = let r = planning.clash-families p h in (r .2, r .0, r .1)
 
 pub joins-exactly : demand.JoinsExactly
 joins-exactly pile room w = (joining.then-joins pile room w, joining.joins-then pile room w)

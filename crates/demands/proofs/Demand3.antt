@@ -40,14 +40,14 @@ deals-alike = hide.deals-alike
 pub other-randomness : demand.OtherRandomness
 other-randomness d made g group n other e =
     let h = hides d made g group n other e in
-    let r = made-in-range d made .random-in in
+    let r = made-in-range d made .ready .random-in in
     (h .pairs .there (d .random), h .pairs .there-in (d .random) r, λ i m. h .same (d .random) r i m)
 
 pub favours-none : demand.FavoursNone
 favours-none d made g group n other e c = none-favoured (hides d made g group n other e) c
 
 pub in-a-row : demand.InARow
-in-a-row d made g holders theirs whole few = rows.row d (made-in-range d made) g holders theirs whole few
+in-a-row d made g holders theirs whole few = rows.row d g holders theirs whole few
 
 pub once-each : demand.OnceEach
 once-each = rows.once-each

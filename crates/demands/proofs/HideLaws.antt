@@ -42,16 +42,16 @@ module _ (d : Deal) (made : Made d) (g : ℕ) (group : Group d g) (none : ¬ Con
 
   -- the piece that no member holds
   lost : (m : ℕ) × (1 ≤ m) × (m ≤ pieceCount d) × ((i : ℕ) → Member d g i → holds (d .policy .people) (d .policy .required) i m ≡ false)
-  lost = one-lost d g (in-range .few) group none
+  lost = one-lost d g (in-range .ready .few) group none
 
   pairing : Paired (pieceCount d) (lost .0) (d .secret) other
-  pairing = paired-some (pieceCount d) (lost .0) (d .secret) other (omega (arith, in-range .most)) (lost .1) (lost .2) (sym e)
+  pairing = paired-some (pieceCount d) (lost .0) (d .secret) other (omega (arith, in-range .ready .most)) (lost .1) (lost .2) (sym e)
 
   same-card : (random : List ℕ) → LentFor d (d .secret) random → (i : ℕ) → Member d g i
       → cardFrom d other (pairing .pairs .there random) i ≡ cardFrom d (d .secret) random i
   unfolding pieceCount values held
   same-card random r i m =
-      card-depends (again d other (pairing .pairs .there random)) (again d (d .secret) random) i refl refl refl
+      card-depends (again d other (pairing .pairs .there random)) (again d (d .secret) random) i refl refl
       (λ j h. let b = held-in d i j h in pairing .same random r j (record { least = b .0; most = b .1; unlike = other-piece d i (lost .0) j (lost .3 i m) h }))
 
   pub hidden : HiddenFrom d g other
@@ -62,5 +62,5 @@ deals-alike d made g other e h small random r i m out =
     let f = made-in-range d made in
     deals-same d other (h .pairs .there random) (d .secret) random
     (again-in-range d f other (h .pairs .there random) e small (h .pairs .there-in random r))
-    (again-in-range d f (d .secret) random refl (f .secret-in) r)
+    (again-in-range d f (d .secret) random refl (f .ready .secret-in) r)
     i (m .least) (m .most) (h .same random r i m) out

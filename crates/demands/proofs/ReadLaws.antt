@@ -61,14 +61,14 @@ module _ (d : Deal) (f : InRange d) (g : ℕ) (bs : List (List ℕ)) (c : CardsO
       → CardBlock d i j (restFrom (flat bs) a) × TrueBlock (restFrom (flat bs) a)
   unfolding restFrom
   at-block a i j l u m has e =
-      let r = flat-drop bs (cards-long d f g bs c) (a - 1) (omega arith) in
+      let r = flat-drop bs (cards-long d g bs c) (a - 1) (omega arith) in
       let q = r .1 ∙ ap (λ (b : List ℕ). b ++ r .0) e in
       rw q (card-block d f i j (m .least) (m .most) has (r .0), block-true d f i j (m .least) (m .most) has (r .0))
 
   reads-flat : length bs ≤ 560 → Reads d g (flat bs)
   unfolding blocks cardBlocks
   reads-flat few =
-      let size = flat-length bs (cards-long d f g bs c) in
+      let size = flat-length bs (cards-long d g bs c) in
       record {
         whole = omega arith;
         few = omega arith;

@@ -10,7 +10,7 @@ use Rattle.answer.proofs.ThoseLaws.{those-few}
 use Rattle.planning.specs.Sets.{member}
 use Rattle.planning.specs.Groups as planning
 use Rattle.planning.specs.Groups.{_∈_, holds}
-use Rattle.dealing.specs.Deal.{Deal, pieceCount, held, flat, cardBlocks, card}
+use Rattle.dealing.specs.Deal.{Deal, pieceCount, held, flat, blockOf, cardBlocks, card}
 use Rattle.dealing.specs.Dealt.{Made, blockCount}
 use Rattle.dealing.proofs.MadeLaws.{InRange, made-in-range, card-length}
 use Rattle.dealing.proofs.CardLaws.{flat-append}
@@ -51,39 +51,38 @@ module _ (blocksOf : ℕ → List (List ℕ)) where
 
 module _ (d : Deal) where
   row-bytes : (hs : List ℕ) → cards d hs ≡ flat (rowBlocks (cardBlocks d) hs)
-  unfolding cards flat rowBlocks card
+  unfolding cards flat rowBlocks card cardBlocks blockOf
   row-bytes [] = refl
   row-bytes (h ∷ hs) =
       ap (λ (l : List ℕ). flat (cardBlocks d h) ++ l) (row-bytes hs) ∙ sym (flat-append (cardBlocks d h) (rowBlocks (cardBlocks d) hs))
 
-  pub row : InRange d → (g : ℕ) (hs : List ℕ) → ((i : ℕ) → i ∈ hs → Member d g i) → ((i : ℕ) → Member d g i → i ∈ hs)
+  pub row : (g : ℕ) (hs : List ℕ) → ((i : ℕ) → i ∈ hs → Member d g i) → ((i : ℕ) → Member d g i → i ∈ hs)
       → length (cards d hs) ≤ 512 * 560 → WholeCards d g (cards d hs)
-  row f g hs theirs all few =
+  row g hs theirs all few =
       let bs = rowBlocks (cardBlocks d) hs in
       let whole = row-whole (cardBlocks d) (Member d g) hs theirs all in
       record {
         blocks = bs;
         whole = whole;
         bytes = row-bytes hs;
-        few = omega (arith, ap length (row-bytes hs), flat-length bs (cards-long d f g bs whole));
+        few = omega (arith, ap length (row-bytes hs), flat-length bs (cards-long d g bs whole));
       }
 
   -- ---- a card has at most k blocks, and k is at most 70
   module _ (f : InRange d) where
-    card-few : (i : ℕ) → 1 ≤ i → i ≤ d .policy .people → length (card d i) ≤ 512 * 70
+    card-few : (i : ℕ) → length (card d i) ≤ 512 * 70
     unfolding blockCount held planning.held pieceCount
-    card-few i l u =
-        omega (arith, card-length d f i l u, f .most, those-few (holds (d .policy .people) (d .policy .required) i) 1 (pieceCount d))
+    card-few i =
+        omega (arith, card-length d i, f .ready .most, those-few (holds (d .policy .people) (d .policy .required) i) 1 (pieceCount d))
 
     cards-few : (g : ℕ) (hs : List ℕ) → ((i : ℕ) → i ∈ hs → Member d g i) → length (cards d hs) ≤ 512 * 70 * length hs
     unfolding cards flat
     cards-few g [] t = zero-le
     cards-few g (h ∷ hs) t =
-        let m = t h (List·Memᴰ·head refl) in
         omega (
           arith,
           length-append (card d h) (cards d hs),
-          card-few h (m .least) (m .most),
+          card-few h,
           cards-few g hs (λ i k. t i (List·Memᴰ·tail k)),
         )
 
@@ -91,10 +90,10 @@ pub once-each : (d : Deal) → Made d → (g : ℕ) → WholeCards d g (cards d 
 unfolding members
 once-each d made g =
     let f = made-in-range d made in
-    row d f g (members d g) (λ i m. in-members d g i m) (λ i m. members-in d g i m)
+    row d g (members d g) (λ i m. in-members d g i m) (λ i m. members-in d g i m)
     (omega (
       arith,
       cards-few d f g (members d g) (λ i m. in-members d g i m),
       those-few (λ i. member i g) 1 (d .policy .people),
-      f .few,
+      f .ready .few,
     ))

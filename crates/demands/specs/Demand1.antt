@@ -11,6 +11,7 @@ use Rattle.answer.specs.Checks.{Line}
 use Rattle.answer.specs.Laws.{Passed}
 use Rattle.field.specs.Poly.{Below}
 use Rattle.planning.specs.Groups.{pieceCount}
+use Rattle.planning.specs.Policy.{Policy}
 use Rattle.planning.specs.Planned.{planLines, planned}
 use Rattle.block.specs.Layout.{headerOf}
 use Rattle.block.specs.Open.{torn, blockLines, opening, TrueBlock}
@@ -43,7 +44,7 @@ abbrev pub Ends : {A : Type 0} → List Line → A → Outcome A → Type 0
 Ends ls v o = (Passed ls × (o ≡ done v)) ⊎ ((m : ℕ) × (a : ℕ) × (b : ℕ) × Speaks ls m a b × (o ≡ refused m a b))
 
 abbrev pub PlanEnds : Type 0
-PlanEnds = (n : ℕ) (required forbidden : List ℕ) → Ends (planLines n required forbidden) (pieceCount n required) (planned n required forbidden)
+PlanEnds = (p : Policy) → Ends (planLines p) (pieceCount (p .people) (p .required)) (planned p)
 
 abbrev pub DealEnds : Type 0
 DealEnds = (d : Deal) (holder room : ℕ) → Ends (dealLines d holder room) (blockCount d holder) (dealing d holder room)
@@ -65,7 +66,7 @@ numbers ls = map (λ l. number (l .kind)) ls
 
 -- "Planning checks 1 to 7" (2 and 3 for each list: "required first").
 abbrev pub PlanOrder : Type 0
-PlanOrder = (n : ℕ) (required forbidden : List ℕ) → numbers (planLines n required forbidden) ≡ 1 ∷ 2 ∷ 2 ∷ 3 ∷ 3 ∷ 4 ∷ 5 ∷ 6 ∷ 7 ∷ []
+PlanOrder = (p : Policy) → numbers (planLines p) ≡ 1 ∷ 2 ∷ 2 ∷ 3 ∷ 3 ∷ 4 ∷ 5 ∷ 6 ∷ 7 ∷ []
 
 -- "Dealing checks 1 to 12 in that order" (10 and 11: the count, else the words).
 abbrev pub DealOrder : Type 0
@@ -86,7 +87,7 @@ OpenOrder = (pile : List ℕ) → numbers (openLines pile) ≡ 13 ∷ 15 ∷ 16 
 
 -- So these are the refusals that each call can answer.
 abbrev pub PlanRefuses : Type 0
-PlanRefuses = (n : ℕ) (required forbidden : List ℕ) (m a b : ℕ) → planned n required forbidden ≡ refused m a b → (1 ≤ m) × (m ≤ 7)
+PlanRefuses = (p : Policy) (m a b : ℕ) → planned p ≡ refused m a b → (1 ≤ m) × (m ≤ 7)
 
 abbrev pub DealRefuses : Type 0
 DealRefuses = (d : Deal) (holder room m a b : ℕ) → dealing d holder room ≡ refused m a b → (1 ≤ m) × (m ≤ 12)
@@ -100,8 +101,7 @@ OpenRefuses = (pile : List ℕ) (m a b : ℕ) → opening pile ≡ refused m a b
 
 -- What planning refuses, dealing refuses, with the same number and places.
 abbrev pub DealAsPlanned : Type 0
-DealAsPlanned = (d : Deal) (holder room m a b : ℕ) → planned (d .policy .people) (d .policy .required) (d .policy .forbidden) ≡ refused m a b
-    → dealing d holder room ≡ refused m a b
+DealAsPlanned = (d : Deal) (holder room m a b : ℕ) → planned (d .policy) ≡ refused m a b → dealing d holder room ≡ refused m a b
 
 -- ---- "A refusal changes no byte or word lent to it." Only dealing and joining are lent what they can write to.
 abbrev pub DealKeeps : Type 0

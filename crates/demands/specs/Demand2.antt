@@ -13,8 +13,9 @@ use Rattle.field.specs.Poly.{value, piece, One}
 use Rattle.planning.specs.Sets.{worth, member}
 use Rattle.planning.specs.Groups as planning
 use Rattle.planning.specs.Groups.{_∈_}
-use Rattle.planning.specs.Planned.{listLines, planned}
-use Rattle.planning.specs.Laws.{Suits}
+use Rattle.planning.specs.Policy.{Policy}
+use Rattle.planning.specs.Planned.{listLines}
+use Rattle.planning.specs.Laws.{Suits, Clashes}
 use Rattle.block.specs.Words.{wordAt, checkOf}
 use Rattle.dealing.specs.Deal.{Deal, pieceCount, held, card}
 use Rattle.dealing.specs.Dealt.{Made, dealing, dealtInto}
@@ -88,17 +89,14 @@ EveryByte = (d : Deal) (holder : ℕ) (out : List ℕ) (blocks : ℕ) → dealin
 
 -- ---- "Lists are refused as clashing exactly when, the earlier checks being passed, no family of groups that grows with its members fits
 -- both lists."
--- planning answers CLASH, at some two places
-abbrev pub Clashes : ℕ → List ℕ → List ℕ → Type 0
-Clashes n required forbidden = (a : ℕ) × (b : ℕ) × (planned n required forbidden ≡ refused 6 a b)
-
--- The earlier checks are 1 to 5; `Suits` is that a family fits both lists and grows. Where CLASH is given, none at all does; where it is not,
+-- The earlier checks are 1 to 5; `Clashes` is that planning answers CLASH, at some two places, and `Suits` that a family fits both lists and
+-- grows. Where CLASH is given, none at all does; where it is not,
 -- one does, and it can be computed.
 abbrev pub ClashExactly : Type 1
-ClashExactly = (n : ℕ) (required forbidden : List ℕ) → Passed (listLines n required forbidden)
-    → (Clashes n required forbidden ↔ ((F : ℕ → Bool) → Suits n required forbidden (λ g. F g ≡ true) → ⊥))
-    × (Clashes n required forbidden → (F : ℕ → Type 0) → Suits n required forbidden F → ⊥)
-    × (¬ Clashes n required forbidden → (F : ℕ → Bool) × Suits n required forbidden (λ g. F g ≡ true))
+ClashExactly = (p : Policy) → Passed (listLines p)
+    → (Clashes p ↔ ((F : ℕ → Bool) → Suits p (λ g. F g ≡ true) → ⊥))
+    × (Clashes p → (F : ℕ → Type 0) → Suits p F → ⊥)
+    × (¬ Clashes p → (F : ℕ → Bool) × Suits p (λ g. F g ≡ true))
 
 -- ---- "Joining gives the secret that those pieces define, or refuses."
 -- It gives a result exactly for a pile that joins: sound, with a block for each piece of 1 to k, and room. Demand 1 has the refusals.
