@@ -1,4 +1,5 @@
 pub mod LinesLaws
+pub mod BadLaws
 pub mod ReadingLaws
 pub mod WritingLaws
 pub mod MembersLaws

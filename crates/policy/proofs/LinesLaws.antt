@@ -53,7 +53,7 @@ front-split b [] = refl
 front-split b (c ∷ s) = ap (inFront b) (split-by (eqb c 10) c s (front-split c s))
 
 -- a text that is not empty is its first line and the lines behind it
-line-split : (b : ℕ) (s : List ℕ) → lines (b ∷ s) ≡ take (lineLength (b ∷ s)) (b ∷ s) ∷ lines (drop (lineLength (b ∷ s)) (b ∷ s))
+pub line-split : (b : ℕ) (s : List ℕ) → lines (b ∷ s) ≡ take (lineLength (b ∷ s)) (b ∷ s) ∷ lines (drop (lineLength (b ∷ s)) (b ∷ s))
 unfolding lines lineLength
 line-split b s = split-by (eqb b 10) b s (front-split b s)
 
@@ -61,7 +61,7 @@ length-by : (t : Bool) (n m : ℕ) → n ≤ m → (1 ≤ cond t 1 (suc n)) × (
 length-by true n m h = (omega arith, omega arith)
 length-by false n m h = (omega arith, omega arith)
 
-length-most : (s : List ℕ) → lineLength s ≤ length s
+pub length-most : (s : List ℕ) → lineLength s ≤ length s
 unfolding lineLength
 length-most [] = omega arith
 length-most (b ∷ s) = length-by (eqb b 10) (lineLength s) (length s) (length-most s) .1

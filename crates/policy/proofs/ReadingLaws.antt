@@ -1,23 +1,27 @@
 -- The two lists as they are read: one set more, one line more, the end.
 -- Assumes nothing.
-use borrow.Author.Tests.{lt-ltb, le-ltb, ne-eqb}
 use mathlib.Core.Path.{_≡_, refl, sym, ap, _∙_}
+use mathlib.Core.Bool.{false}
 use mathlib.Core.Logic.{⊎-elim}
 use mathlib.Core.List.{List, [], _∷_, _++_, append-assoc, append-nil}
 use native.Mathlib.Omega.{arith}
-use Prim.Native.Nat.{ℕ, suc, _+_, _-_, _≤_, _<_, suc-le-suc, zero-le}
-use lib.ListN.{length, take, drop, set, replicate, length-append}
+use Prim.Native.Nat.{ℕ, suc, _+_, _-_, _≤_, _<_}
+use lib.ListN.{length, take, drop, set, replicate, length-append, length-drop}
 use lib.Seq.{take-all, take-append-le, length-take-le, set-at}
 use Rattle.answer.specs.declared.Kind.the-variants.{Text}
 use Rattle.answer.specs.Outcome.{done, refused, number}
-use Rattle.answer.specs.Checks.{line, firstFail}
-use Rattle.answer.proofs.CheckLaws.{given}
+use Rattle.answer.specs.Places.{firstIn}
+use Rattle.answer.proofs.FirstLaws.{first-hit, first-miss, first-none}
+use Rattle.planning.specs.Policy.{policyOf}
 use Rattle.policy.specs.declared.Sets.{Sets}
+use Rattle.policy.specs.declared.Found.the-variants.{Number}
+use Rattle.policy.specs.declared.Said.{Said}
 use Rattle.policy.specs.declared.Said.the-variants.{Need, Bar, Bad}
-use Rattle.policy.specs.Policy.{lines, lineLength, lineSays, firstBad, requiredIn, forbiddenIn, readSets, Keeps}
-use Rattle.policy.specs.Policy.{begins, peopleIn, behindFirst, readLines, readPolicy}
+use Rattle.policy.specs.Policy.{lines, lineLength, lineOf, peopleIn, lineSays, isNothing, isBad, addNeed, addBar, requiredIn, forbiddenIn}
+use Rattle.policy.specs.Policy.{badAt, badLine, policyIn, readPolicy, Keeps}
 use Rattle.print.proofs.DecimalLaws.{below}
-use Rattle.policy.proofs.LinesLaws.{lineAt, behind, behind-most, behind-more, lines-at, no-lines}
+use Rattle.policy.proofs.LinesLaws.{length-most, lineAt, behind, behind-most, behind-more, lines-at, no-lines}
+use Rattle.policy.proofs.BadLaws.{end, text-bad, text-good, first-line, next-rest, in-lines, bad-there}
 
 -- ---- one set more
 few-kept : (sets : List ℕ) (count : ℕ) → count ≡ length (take 257 sets) → count < 257 → (count ≡ length sets) × (length sets < 257)
@@ -62,90 +66,85 @@ module _ (sets : List ℕ) (s : ℕ) where
       }
 
 -- ---- the loop over the lines: the sets so far and those of the rest are all the sets, and no line so far is bad
-pub record Going (text : List ℕ) (start : ℕ) (required forbidden : Sets) (at line : ℕ) : Type 0 where
+pub record Going (text : List ℕ) (required forbidden : Sets) (at line : ℕ) : Type 0 where
   pub needs : List ℕ
   pub bars : List ℕ
   pub inside : at ≤ length text
   pub numbered : (2 ≤ line) × (line ≤ at + 2)
+  pub rest : drop (line - 1) (lines text) ≡ lines (drop at text)
   pub required-so-far : Keeps needs required
   pub forbidden-so-far : Keeps bars forbidden
-  pub required-all : needs ++ requiredIn (lines (drop at text)) ≡ requiredIn (lines (drop start text))
-  pub forbidden-all : bars ++ forbiddenIn (lines (drop at text)) ≡ forbiddenIn (lines (drop start text))
-  pub bad-all : firstBad line (lines (drop at text)) ≡ firstBad 2 (lines (drop start text))
+  pub required-all : needs ++ requiredIn (lines (drop at text)) ≡ requiredIn (drop 1 (lines text))
+  pub forbidden-all : bars ++ forbiddenIn (lines (drop at text)) ≡ forbiddenIn (drop 1 (lines text))
+  pub bad-all : badLine (lines text) ≡ firstIn (badAt (lines text)) line (end (lines text))
 
-pub going-first : {text : List ℕ} {start : ℕ} {required forbidden : Sets} → start ≤ length text → Keeps [] required → Keeps [] forbidden
-    → Going text start required forbidden start 2
-going-first h p q = record {
-  needs = [];
-  bars = [];
-  inside = h;
-  numbered = (omega arith, omega arith);
-  required-so-far = p;
-  forbidden-so-far = q;
-  required-all = refl;
-  forbidden-all = refl;
-  bad-all = refl;
-}
+pub going-first : {text : List ℕ} {required forbidden : Sets} {people : ℕ} → peopleIn (lineOf (lines text) 1) ≡ Number people
+    → Keeps [] required → Keeps [] forbidden → Going text required forbidden (lineLength text) 2
+unfolding badLine badAt
+going-first {text} e p q =
+    let r = first-line text .1 in
+    record {
+      needs = [];
+      bars = [];
+      inside = length-most text;
+      numbered = (omega arith, omega arith);
+      rest = r;
+      required-so-far = p;
+      forbidden-so-far = q;
+      required-all = ap requiredIn (sym r);
+      forbidden-all = ap forbiddenIn (sym r);
+      bad-all = first-miss (badAt (lines text)) 1 (end (lines text)) (omega arith) (ap isNothing e);
+    }
 
-module _ {text : List ℕ} {start : ℕ} {required forbidden : Sets} {at line : ℕ} (g : Going text start required forbidden at line) where
-  module _ (h : at < length text) (s : ℕ) where
-    pub going-need : {more : Sets} → lineSays (lineAt text at) ≡ Need s → Keeps (g .needs ++ s ∷ []) more
-        → Going text start more forbidden (behind text at) (line + 1)
-    unfolding requiredIn forbiddenIn firstBad
-    going-need e k = record {
-      needs = g .needs ++ s ∷ [];
-      bars = g .bars;
+module _ {text : List ℕ} {required forbidden : Sets} {at line : ℕ} (g : Going text required forbidden at line) where
+  module _ (h : at < length text) where
+    from-here : drop (line - 1) (lines text) ≡ lineAt text at ∷ lines (drop (behind text at) text)
+    from-here = g .rest ∙ lines-at text at h
+
+    -- a line that is not bad, with its set
+    going-on : {required′ forbidden′ : Sets} (x : Said) (needs bars : List ℕ) → lineSays (lineAt text at) ≡ x → isBad x ≡ false
+        → Keeps needs required′ → Keeps bars forbidden′
+        → ((sets : List ℕ) → needs ++ sets ≡ g .needs ++ addNeed x sets) → ((sets : List ℕ) → bars ++ sets ≡ g .bars ++ addBar x sets)
+        → Going text required′ forbidden′ (behind text at) (line + 1)
+    unfolding requiredIn forbiddenIn
+    going-on x needs bars e b k m add-need add-bar = record {
+      needs = needs;
+      bars = bars;
       inside = behind-most text at (omega arith);
       numbered = (omega (arith, g .numbered), omega (arith, g .numbered, behind-more text at h));
+      rest = next-rest (lines text) line (g .numbered .0) _ _ from-here;
       required-so-far = k;
-      forbidden-so-far = g .forbidden-so-far;
-      required-all = append-assoc (g .needs) (s ∷ []) (requiredIn (lines (drop (behind text at) text))) ∙ rw (lines-at text at h, e) at (g .required-all);
-      forbidden-all = rw (lines-at text at h, e) at (g .forbidden-all);
-      bad-all = rw (lines-at text at h, e) at (g .bad-all);
+      forbidden-so-far = m;
+      required-all = add-need _ ∙ rw (lines-at text at h, e) at (g .required-all);
+      forbidden-all = add-bar _ ∙ rw (lines-at text at h, e) at (g .forbidden-all);
+      bad-all =
+          g .bad-all
+          ∙ first-miss (badAt (lines text)) line (end (lines text)) (in-lines (lines text) line (g .numbered .0) _ _ from-here)
+          (bad-there (lines text) line (g .numbered .0) _ _ from-here ∙ ap isBad e ∙ b);
     }
 
-    pub going-bar : {more : Sets} → lineSays (lineAt text at) ≡ Bar s → Keeps (g .bars ++ s ∷ []) more
-        → Going text start required more (behind text at) (line + 1)
-    unfolding requiredIn forbiddenIn firstBad
-    going-bar e k = record {
-      needs = g .needs;
-      bars = g .bars ++ s ∷ [];
-      inside = behind-most text at (omega arith);
-      numbered = (omega (arith, g .numbered), omega (arith, g .numbered, behind-more text at h));
-      required-so-far = g .required-so-far;
-      forbidden-so-far = k;
-      required-all = rw (lines-at text at h, e) at (g .required-all);
-      forbidden-all = append-assoc (g .bars) (s ∷ []) (forbiddenIn (lines (drop (behind text at) text))) ∙ rw (lines-at text at h, e) at (g .forbidden-all);
-      bad-all = rw (lines-at text at h, e) at (g .bad-all);
-    }
+    pub going-need : {more : Sets} (s : ℕ) → lineSays (lineAt text at) ≡ Need s → Keeps (g .needs ++ s ∷ []) more
+        → Going text more forbidden (behind text at) (line + 1)
+    going-need s e k = going-on (Need s) (g .needs ++ s ∷ []) (g .bars) e refl k (g .forbidden-so-far) (append-assoc (g .needs) (s ∷ [])) (λ sets. refl)
 
-  pub going-bad : at < length text → lineSays (lineAt text at) ≡ Bad → (people : ℕ)
-      → readSets people (lines (drop start text)) ≡ refused (number Text) line 0
-  unfolding readSets firstBad
-  going-bad h e people =
-      let z : firstBad 2 (lines (drop start text)) ≡ line = sym (g .bad-all) ∙ rw (lines-at text at h, e) in
-      given _ _ _ (rw z (simp (ne-eqb line 0 (λ (n : line ≡ 0). absurd (omega (arith, g .numbered)))))) ∙ rw z
+    pub going-bar : {more : Sets} (s : ℕ) → lineSays (lineAt text at) ≡ Bar s → Keeps (g .bars ++ s ∷ []) more
+        → Going text required more (behind text at) (line + 1)
+    going-bar s e k = going-on (Bar s) (g .needs) (g .bars ++ s ∷ []) e refl (g .required-so-far) k (λ sets. refl) (append-assoc (g .bars) (s ∷ []))
 
-  pub going-done : length text ≤ at → (people : ℕ)
-      → readSets people (lines (drop start text)) ≡ done (record { people = people; required = g .needs; forbidden = g .bars })
-  unfolding readSets requiredIn forbiddenIn firstBad firstFail
-  going-done h people =
+    pub going-bad : lineSays (lineAt text at) ≡ Bad → length text ≤ 16384 → readPolicy text ≡ refused (number Text) line 0
+    going-bad e few =
+        text-bad text few line
+        (g .bad-all
+        ∙ first-hit (badAt (lines text)) line (end (lines text)) (in-lines (lines text) line (g .numbered .0) _ _ from-here)
+        (bad-there (lines text) line (g .numbered .0) _ _ from-here ∙ ap isBad e))
+        (omega (arith, g .numbered))
+
+  pub going-done : {people : ℕ} → length text ≤ at → length text ≤ 16384 → peopleIn (lineOf (lines text) 1) ≡ Number people
+      → readPolicy text ≡ done (policyOf people (g .needs) (g .bars))
+  unfolding policyIn requiredIn forbiddenIn
+  going-done h few e =
       let n = no-lines text at h in
-      let z : firstBad 2 (lines (drop start text)) ≡ 0 = sym (g .bad-all) ∙ rw n in
-      let p : requiredIn (lines (drop start text)) ≡ g .needs = sym (g .required-all) ∙ rw n (append-nil (g .needs)) in
-      let q : forbiddenIn (lines (drop start text)) ≡ g .bars = sym (g .forbidden-all) ∙ rw n (append-nil (g .bars)) in
-      rw (z, p, q)
-
--- ---- the whole text
-pub text-long : (text : List ℕ) → 16384 < length text → readPolicy text ≡ refused (number Text) 0 0
-unfolding readPolicy firstFail
-text-long text h = simp (lt-ltb 16384 (length text) h)
-
-first-line : (text : List ℕ) → readLines (lines text) ≡ behindFirst (peopleIn (lineAt text 0)) (lines (drop (behind text 0) text))
-unfolding readLines lines lineLength peopleIn begins
-first-line [] = refl
-first-line (b ∷ text) = ap readLines (lines-at (b ∷ text) 0 (suc-le-suc zero-le))
-
-pub text-first : (text : List ℕ) → length text ≤ 16384 → readPolicy text ≡ behindFirst (peopleIn (lineAt text 0)) (lines (drop (behind text 0) text))
-unfolding readPolicy firstFail
-text-first text h = simp (le-ltb 16384 (length text) h) (first-line text)
+      let none : end (lines text) ≤ line = omega (arith, g .numbered, length-drop (line - 1) (lines text), ap length (g .rest ∙ n)) in
+      let p : requiredIn (drop 1 (lines text)) ≡ g .needs = sym (g .required-all) ∙ rw n (append-nil (g .needs)) in
+      let q : forbiddenIn (drop 1 (lines text)) ≡ g .bars = sym (g .forbidden-all) ∙ rw n (append-nil (g .bars)) in
+      text-good text few (g .bad-all ∙ first-none (badAt (lines text)) line (end (lines text)) none) ∙ rw (e, p, q)

@@ -6,13 +6,13 @@ use mathlib.Core.Bool.{Bool, true, false, cond, _&&_, false≢true}
 use mathlib.Core.List.{List, [], _∷_, _++_, List·Memᴰ, List·Memᴰ·not-nil, List·Memᴰ·cases-cons}
 use mathlib.Core.Logic.{⊎-elim}
 use native.Mathlib.Omega.{arith}
-use Prim.Native.Nat.{ℕ, _+_, _-_, _≤_, _<_}
+use Prim.Native.Nat.{ℕ, suc, _-_, _≤_, _<_}
 use lib.Dec.{eqb, leb}
-use lib.ListN.{length, drop}
+use lib.ListN.{length, drop, getD}
 use Rattle.answer.specs.Outcome.{done}
-use Rattle.answer.proofs.FirstLaws.{none-found}
-use Rattle.answer.proofs.CheckLaws.{never-both, done-passed, passed}
-use Rattle.answer.proofs.Truth.{both}
+use Rattle.answer.proofs.FirstLaws.{none-in, none-found}
+use Rattle.answer.proofs.CheckLaws.{done-passed, passed}
+use Rattle.answer.proofs.Truth.{never, both}
 use Rattle.print.specs.Decimal.{digit}
 use Rattle.print.specs.Lines.{feed}
 use Rattle.policy.specs.declared.Found.{Found}
@@ -21,8 +21,9 @@ use Rattle.policy.specs.declared.Said.{Said}
 use Rattle.policy.specs.declared.Said.the-variants.{Need, Bar, Bad}
 use Rattle.planning.specs.Policy.{Policy}
 use Rattle.policy.specs.Policy.{inFront, lines, begins, peopleWord, pickFound, oneDigit, peopleIn, needWord, barWord, members, pickSaid, needs, bars, lineSays}
-use Rattle.policy.specs.Policy.{isBad, firstBad, requiredIn, forbiddenIn, readSets, readLines, behindFirst, readPolicy}
+use Rattle.policy.specs.Policy.{isNothing, numberIn, isBad, requiredIn, forbiddenIn, badAt, badLine, policyIn, readPolicy}
 use Rattle.policy.specs.Laws.{Entry, need, bar, setOf, writtenLine, writtenLines, writtenText, requiredAmong, forbiddenAmong, Named, Written}
+use Rattle.policy.proofs.BadLaws.{none-behind}
 use Rattle.policy.proofs.MembersLaws.{no-number, members-shape}
 
 -- ---- a text is its lines
@@ -112,11 +113,9 @@ named-more {e} {es} h n = record {
   named = λ x m. ⊎-elim (λ (q : x ≡ e). subst (λ (y : Entry). setOf y < 512) (sym q) h) (λ (q : List·Memᴰ x es). n .named x q) (List·Memᴰ·cases-cons m);
 }
 
-entries-by : (x : Said) (l : List ℕ) (ls : List (List ℕ)) (i : ℕ) → lineSays l ≡ x → 1 ≤ i → (firstBad (i + 1) ls ≡ 0 → Entries ls)
-    → cond (isBad x) i (firstBad (i + 1) ls) ≡ 0 → Entries (l ∷ ls)
+entries-by : (x : Said) (l : List ℕ) (ls : List (List ℕ)) → lineSays l ≡ x → isBad x ≡ false → Entries ls → Entries (l ∷ ls)
 unfolding joined writtenLines requiredIn forbiddenIn requiredAmong forbiddenAmong
-entries-by (Need s) l ls i e p f h =
-    let r = f h in
+entries-by (Need s) l ls e g r =
     let m = need-line l s e in
     record {
       entries = need s ∷ r .entries;
@@ -125,8 +124,7 @@ entries-by (Need s) l ls i e p f h =
       required = rw e (ap (λ (t : List ℕ). s ∷ t) (r .required));
       forbidden = rw e (r .forbidden);
     }
-entries-by (Bar s) l ls i e p f h =
-    let r = f h in
+entries-by (Bar s) l ls e g r =
     let m = bar-line l s e in
     record {
       entries = bar s ∷ r .entries;
@@ -135,13 +133,13 @@ entries-by (Bar s) l ls i e p f h =
       required = rw e (r .required);
       forbidden = rw e (ap (λ (t : List ℕ). s ∷ t) (r .forbidden));
     }
-entries-by Bad l ls i e p f h = absurd (omega arith)
+entries-by Bad l ls e g r = absurd (never g refl)
 
-entries-of : (ls : List (List ℕ)) (i : ℕ) → 1 ≤ i → firstBad i ls ≡ 0 → Entries ls
-unfolding firstBad joined writtenLines requiredIn forbiddenIn requiredAmong forbiddenAmong
-entries-of [] i p h =
+entries-of : (ls : List (List ℕ)) → ((i : ℕ) → i < length ls → isBad (lineSays (getD ls i [])) ≡ false) → Entries ls
+unfolding joined writtenLines requiredIn forbiddenIn requiredAmong forbiddenAmong
+entries-of [] h =
     record { entries = []; named = record { named = λ x m. absurd (List·Memᴰ·not-nil m) }; text = refl; required = refl; forbidden = refl }
-entries-of (l ∷ ls) i p h = entries-by (lineSays l) l ls i refl p (entries-of ls (i + 1) (omega arith)) h
+entries-of (l ∷ ls) h = entries-by (lineSays l) l ls refl (h 0 (omega arith)) (entries-of ls (λ i k. h (suc i) (omega arith)))
 
 -- ---- the first line
 found-by : (t : Bool) (f : Found) (n : ℕ) → pickFound t f Nothing ≡ Number n → (t ≡ true) × (f ≡ Number n)
@@ -175,32 +173,34 @@ first-shape l n e =
     (d .0, begins-means peopleWord l (f .0) ∙ ap (λ (x : List ℕ). peopleWord ++ x) (d .1))
 
 -- ---- the whole text
-behind-shape : (x : Found) (l : List ℕ) (ls : List (List ℕ)) (p : Policy) → peopleIn l ≡ x → behindFirst x ls ≡ done p → Written (l ++ joined ls) p
-unfolding readSets writtenText
-behind-shape (Number n) l ls p e h =
-    let r = done-passed _ _ p h in
-    let bad : firstBad 2 ls ≡ 0 = none-found (firstBad 2 ls) (passed (r .0) .0) in
-    let es = entries-of ls 2 (omega arith) bad in
-    let f = first-shape l n e in
-    let same : record { people = n; required = requiredIn ls; forbidden = forbiddenIn ls } ≡ p = cc (r .1) in
-    subst (λ (q : Policy). Written (l ++ joined ls) q) same
-    (record {
+first-by : (x : Found) (l : List ℕ) → peopleIn l ≡ x → isNothing x ≡ false
+    → (numberIn x ≤ 9) × (l ≡ peopleWord ++ digit (numberIn x) ∷ feed)
+first-by (Number n) l e g = first-shape l n e
+first-by Nothing l e g = absurd (never g refl)
+
+lines-shape : (ls : List (List ℕ)) → badLine ls ≡ 0 → Written (joined ls) (policyIn ls)
+unfolding badLine badAt peopleIn begins joined policyIn writtenText
+lines-shape [] z = absurd (false≢true (sym (none-in (badAt []) 1 2 (omega arith) z 1 (omega arith) (omega arith))))
+lines-shape (l ∷ ls) z =
+    let n = none-behind l ls z in
+    let es = entries-of ls (n .1) in
+    let f = first-by (peopleIn l) l refl (n .0) in
+    record {
       entries = es .entries;
       people = f .0;
       named = es .named;
       written = ap₂ _++_ (f .1) (es .text);
       required = es .required;
       forbidden = es .forbidden;
-    })
-behind-shape Nothing l ls p e h = never-both (sym h)
-
-lines-shape : (ls : List (List ℕ)) (p : Policy) → readLines ls ≡ done p → Written (joined ls) p
-unfolding readLines joined
-lines-shape [] p h = never-both (sym h)
-lines-shape (l ∷ ls) p h = behind-shape (peopleIn l) l ls p refl h
+    }
 
 pub only-written : (text : List ℕ) (p : Policy) → readPolicy text ≡ done p → Written text p × (length text ≤ 16384)
 unfolding readPolicy
 only-written text p h =
     let r = done-passed _ _ p h in
-    (subst (λ (t : List ℕ). Written t p) (joined-lines text) (lines-shape (lines text) p (r .1)), ltb-false 16384 (length text) (passed (r .0) .0))
+    let q = passed (r .0) in
+    let z = none-found (badLine (lines text)) (passed (q .1) .0) in
+    let same : policyIn (lines text) ≡ p = cc (r .1) in (
+      subst (λ (t : List ℕ). Written t p) (joined-lines text) (subst (Written (joined (lines text))) same (lines-shape (lines text) z)),
+      ltb-false 16384 (length text) (q .0),
+    )

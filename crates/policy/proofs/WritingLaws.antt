@@ -1,15 +1,14 @@
 -- Reading what was written: every line that is written from a set is one line, and says that set. A computed test of the 512 sets.
 -- Assumes nothing.
-use borrow.Author.Tests.{le-ltb, eqb-true}
-use mathlib.Core.Path.{_≡_, refl, ap}
+use borrow.Author.Tests.{eqb-true}
+use mathlib.Core.Path.{_≡_, refl, ap, _∙_}
 use mathlib.Core.Bool.{Bool, true, false, cond, _&&_, false≢true}
-use mathlib.Core.List.{List, [], _∷_, _++_, List·Memᴰ·head, List·Memᴰ·tail}
+use mathlib.Core.List.{List, [], _∷_, _++_, map, List·Memᴰ·head, List·Memᴰ·tail}
 use native.Mathlib.Omega.{arith}
-use Prim.Native.Nat.{ℕ, _+_, _-_, _≤_, _<_}
+use Prim.Native.Nat.{ℕ, zero, suc, _+_, _-_, _≤_, _<_}
 use lib.Dec.{eqb}
-use lib.ListN.{length}
+use lib.ListN.{length, getD}
 use Rattle.answer.specs.Outcome.{done}
-use Rattle.answer.specs.Checks.{firstFail}
 use Rattle.answer.specs.Places.{those}
 use Rattle.planning.specs.Sets.{member, each}
 use Rattle.answer.proofs.Truth.{both}
@@ -22,7 +21,8 @@ use Rattle.policy.specs.declared.Said.{Said}
 use Rattle.policy.specs.declared.Said.the-variants.{Need, Bar}
 use Rattle.planning.specs.Policy.{policyOf}
 use Rattle.policy.specs.Policy.{inFront, lines, begins, peopleWord, oneDigit, peopleIn, members, needs, bars, lineSays}
-use Rattle.policy.specs.Policy.{firstBad, requiredIn, forbiddenIn, readSets, readLines, readPolicy}
+use Rattle.policy.specs.Policy.{isNothing, isBad, requiredIn, forbiddenIn, badLine, policyIn, readPolicy}
+use Rattle.policy.proofs.BadLaws.{text-good, none-bad}
 use Rattle.policy.specs.Laws.{Entry, need, bar, setOf, peopleOf, writtenLine, writtenLines, writtenText, requiredAmong, forbiddenAmong, Named}
 
 -- ---- one line
@@ -121,41 +121,52 @@ entry-first e rest h = line-first (writtenLine e) rest (entry-line e h)
 named-first : {e : Entry} {es : List Entry} → Named (e ∷ es) → (setOf e < 512) × Named es
 named-first {e} {es} n = (n .named e (List·Memᴰ·head refl), record { named = λ x m. n .named x (List·Memᴰ·tail m) })
 
-none-bad : (es : List Entry) → Named es → (i : ℕ) → firstBad i (lines (writtenLines es)) ≡ 0
-unfolding writtenLines lines firstBad
-none-bad [] n i = refl
-none-bad (need s ∷ es) n i =
-    let m = named-first n in
-    rw (entry-first (need s) (writtenLines es) (m .0), entry-says (need s) (m .0)) (none-bad es (m .1) (i + 1))
-none-bad (bar s ∷ es) n i =
-    let m = named-first n in
-    rw (entry-first (bar s) (writtenLines es) (m .0), entry-says (bar s) (m .0)) (none-bad es (m .1) (i + 1))
+entry-good : (e : Entry) → setOf e < 512 → isBad (lineSays (writtenLine e)) ≡ false
+entry-good (need s) h = ap isBad (entry-says (need s) h)
+entry-good (bar s) h = ap isBad (entry-says (bar s) h)
 
-required-again : (es : List Entry) → Named es → requiredIn (lines (writtenLines es)) ≡ requiredAmong es
-unfolding writtenLines lines requiredIn requiredAmong
+lines-again : (es : List Entry) → Named es → lines (writtenLines es) ≡ map writtenLine es
+unfolding writtenLines lines
+lines-again [] n = refl
+lines-again (e ∷ es) n =
+    let m = named-first n in
+    entry-first e (writtenLines es) (m .0) ∙ ap (λ (ls : List (List ℕ)). writtenLine e ∷ ls) (lines-again es (m .1))
+
+all-good : (es : List Entry) → Named es → (i : ℕ) → i < length (map writtenLine es) → isBad (lineSays (getD (map writtenLine es) i [])) ≡ false
+all-good [] n i h = absurd (omega arith)
+all-good (e ∷ es) n zero h = entry-good e (named-first n .0)
+all-good (e ∷ es) n (suc i) h = all-good es (named-first n .1) i (omega arith)
+
+required-again : (es : List Entry) → Named es → requiredIn (map writtenLine es) ≡ requiredAmong es
+unfolding requiredIn requiredAmong
 required-again [] n = refl
 required-again (need s ∷ es) n =
     let m = named-first n in
-    rw (entry-first (need s) (writtenLines es) (m .0), entry-says (need s) (m .0)) (ap (λ (l : List ℕ). s ∷ l) (required-again es (m .1)))
+    rw (entry-says (need s) (m .0)) (ap (λ (l : List ℕ). s ∷ l) (required-again es (m .1)))
 required-again (bar s ∷ es) n =
     let m = named-first n in
-    rw (entry-first (bar s) (writtenLines es) (m .0), entry-says (bar s) (m .0)) (required-again es (m .1))
+    rw (entry-says (bar s) (m .0)) (required-again es (m .1))
 
-forbidden-again : (es : List Entry) → Named es → forbiddenIn (lines (writtenLines es)) ≡ forbiddenAmong es
-unfolding writtenLines lines forbiddenIn forbiddenAmong
+forbidden-again : (es : List Entry) → Named es → forbiddenIn (map writtenLine es) ≡ forbiddenAmong es
+unfolding forbiddenIn forbiddenAmong
 forbidden-again [] n = refl
 forbidden-again (need s ∷ es) n =
     let m = named-first n in
-    rw (entry-first (need s) (writtenLines es) (m .0), entry-says (need s) (m .0)) (forbidden-again es (m .1))
+    rw (entry-says (need s) (m .0)) (forbidden-again es (m .1))
 forbidden-again (bar s ∷ es) n =
     let m = named-first n in
-    rw (entry-first (bar s) (writtenLines es) (m .0), entry-says (bar s) (m .0)) (ap (λ (l : List ℕ). s ∷ l) (forbidden-again es (m .1)))
+    rw (entry-says (bar s) (m .0)) (ap (λ (l : List ℕ). s ∷ l) (forbidden-again es (m .1)))
 
 -- ---- the whole text
 pub reads-written : (n : ℕ) (es : List Entry) → n ≤ 9 → Named es → length (writtenText n es) ≤ 16384
     → readPolicy (writtenText n es) ≡ done (policyOf n (requiredAmong es) (forbiddenAmong es))
-unfolding readPolicy firstFail writtenText readLines readSets
+unfolding writtenText policyIn
 reads-written n es h m l =
     let f = first-right n h in
-    let first : lines (firstOf n ++ writtenLines es) ≡ firstOf n ∷ lines (writtenLines es) = line-first (firstOf n) (writtenLines es) (f .0) in
-    rw (le-ltb 16384 (length (writtenText n es)) l, first, f .1, none-bad es m 2, required-again es m, forbidden-again es m)
+    let ls = firstOf n ∷ map writtenLine es in
+    let all : lines (writtenText n es) ≡ ls =
+    line-first (firstOf n) (writtenLines es) (f .0) ∙ ap (λ (k : List (List ℕ)). firstOf n ∷ k) (lines-again es m)
+    in
+    let none : badLine ls ≡ 0 = none-bad (firstOf n) (map writtenLine es) (ap isNothing (f .1)) (all-good es m) in
+    text-good (writtenText n es) l (ap badLine all ∙ none) ∙ ap (λ (k : List (List ℕ)). done (policyIn k)) all
+    ∙ rw (f .1, required-again es m, forbidden-again es m)

@@ -3,13 +3,13 @@
 use mathlib.Core.Path.{_≡_}
 use mathlib.Core.Bool.{Bool, true, false, cond, _&&_}
 use mathlib.Core.List.{List, [], _∷_, _++_}
-use Prim.Native.Nat.{ℕ, suc, _+_, _-_}
+use Prim.Native.Nat.{ℕ, suc, _+_, _-_, max}
 use lib.Dec.{ltb, leb, eqb}
-use lib.ListN.{length, take, drop, replicate}
+use lib.ListN.{length, take, drop, getD, replicate}
 use Rattle.answer.specs.declared.Kind.the-variants.{Text}
-use Rattle.answer.specs.Outcome.{Outcome, done, refused, number, outcome}
+use Rattle.answer.specs.Outcome.{Outcome, done, refused, outcome}
 use Rattle.answer.specs.Checks.{line, firstFail}
-use Rattle.answer.specs.Places.{found}
+use Rattle.answer.specs.Places.{firstIn, found}
 use Rattle.planning.specs.Sets.{worth}
 use Rattle.planning.specs.Policy.{Policy, policyOf}
 use Rattle.policy.specs.declared.Found.{Found}
@@ -100,16 +100,21 @@ lineSays line =
     (pickSaid (begins barWord line) (bars (members 48 0 (drop 3 line))) Bad)
 
 -- ---- the text
+-- no number was found
+abbrev pub isNothing : Found → Bool
+isNothing (Number n) = false
+isNothing Nothing = true
+
+-- the number that was found
+abbrev pub numberIn : Found → ℕ
+numberIn (Number n) = n
+numberIn Nothing = 0
+
 -- the line is bad
 abbrev pub isBad : Said → Bool
 isBad (Need s) = false
 isBad (Bar s) = false
 isBad Bad = true
-
--- the number of the first bad line, where the first of these lines is line i; 0: none is bad
-unfoldable pub firstBad : ℕ → List (List ℕ) → ℕ
-firstBad i [] = 0
-firstBad i (l ∷ ls) = cond (isBad (lineSays l)) i (firstBad (i + 1) ls)
 
 -- a line `need` adds its set in front of the others
 abbrev pub addNeed : Said → List ℕ → List ℕ
@@ -133,25 +138,27 @@ unfoldable pub forbiddenIn : List (List ℕ) → List ℕ
 forbiddenIn [] = []
 forbiddenIn (l ∷ ls) = addBar (lineSays l) (forbiddenIn ls)
 
--- the lines behind the first; "TEXT names the first bad line"
-unfoldable pub readSets : ℕ → List (List ℕ) → Outcome Policy
-readSets people ls =
-    firstFail (line Text (found (firstBad 2 ls)) (firstBad 2 ls) 0 ∷ [])
-    (done (policyOf people (requiredIn ls) (forbiddenIn ls)))
+-- line i of these lines; one that is missing has no bytes
+abbrev pub lineOf : List (List ℕ) → ℕ → List ℕ
+lineOf ls i = getD ls (i - 1) []
 
--- the lines behind a first line that gives the people; one that does not is bad
-abbrev pub behindFirst : Found → List (List ℕ) → Outcome Policy
-behindFirst (Number people) ls = readSets people ls
-behindFirst Nothing ls = refused (number Text) 1 0
+-- whether line i is bad: the first, where it does not give the people; another, where it gives no set
+unfoldable pub badAt : List (List ℕ) → ℕ → Bool
+badAt ls i = cond (eqb i 1) (isNothing (peopleIn (lineOf ls i))) (isBad (lineSays (lineOf ls i)))
 
--- all lines; "an empty text is TEXT, line 1"
-unfoldable pub readLines : List (List ℕ) → Outcome Policy
-readLines [] = refused (number Text) 1 0
-readLines (l ∷ ls) = behindFirst (peopleIn l) ls
+-- the first bad line, or 0; line 1 is looked for in a text of no lines too
+unfoldable pub badLine : List (List ℕ) → ℕ
+badLine ls = firstIn (badAt ls) 1 (max 1 (length ls) + 1)
 
--- "a policy text of at most 16,384 bytes; longer is TEXT, a = 0"
+-- what lines say of which none is bad
+unfoldable pub policyIn : List (List ℕ) → Policy
+policyIn ls = policyOf (numberIn (peopleIn (lineOf ls 1))) (requiredIn (drop 1 ls)) (forbiddenIn (drop 1 ls))
+
+-- refusal 21, for a text of too many bytes and for its first bad line; else the policy of its lines
 unfoldable pub readPolicy : List ℕ → Outcome Policy
-readPolicy text = firstFail (line Text (ltb 16384 (length text)) 0 0 ∷ []) (readLines (lines text))
+readPolicy text =
+    firstFail (line Text (ltb 16384 (length text)) 0 0 ∷ line Text (found (badLine (lines text))) (badLine (lines text)) 0 ∷ [])
+    (done (policyIn (lines text)))
 
 -- ---- what a call hands back
 -- the first 257 sets of a list, and zeros behind them; how many they are: a list of 257 sets is too long already

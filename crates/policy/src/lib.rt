@@ -6,7 +6,8 @@ ghost use Rattle.planning.specs.Sets.{worth as Sets·worth};
 ghost use lib.ListN.{length, drop};
 ghost use Rattle.answer.specs.declared.Kind.the-variants.{Text};
 ghost use Rattle.answer.specs.Outcome.{refused, number};
-ghost use Rattle.policy.specs.Policy.{lineLength, members, peopleIn, lineSays, lines, readSets, readPolicy, Keeps, Holds};
+ghost use Rattle.policy.specs.declared.Found.the-variants.{Number};
+ghost use Rattle.policy.specs.Policy.{lineLength, members, peopleIn, lineSays, lines, lineOf, readPolicy, Keeps, Holds};
 ghost use Rattle.policy.specs.Policy.{begins as Policy·begins};
 
 // A number that was looked for in a line: the first line's digit, or a set.
@@ -186,10 +187,12 @@ fn unreadable(line: usize) -> PolicyText
     }
 }
 
-// Reads the lines behind the first, from start on.
+// Reads the lines behind the first, which ends at start and gives the people.
 fn read_sets(text: &[u8], start: usize, people: usize) -> PolicyText
-    requires { ⌜ start ≤ length (now text) ⌝ }
-    ensures { λ r. ⌜ Holds (readSets people (lines (drop start (now (text .entry))))) r ⌝ }
+    requires { ⌜
+        (length (now text) ≤ 16384) × (start ≡ lineLength (now text)) × (peopleIn (lineOf (lines (now text)) 1) ≡ Number people)
+        ⌝ }
+    ensures { λ r. ⌜ Holds (readPolicy (now (text .entry))) r ⌝ }
 {
     let mut required = no_sets();
     let mut forbidden = no_sets();

@@ -1,14 +1,14 @@
 -- `policy::read_policy` meets its contract: a text that is too long, the first line, the lines behind it.
 -- Assumes nothing.
-use mathlib.Core.Path.{_≡_, sym, ap, subst, _∙_}
+use mathlib.Core.Path.{_≡_, sym, ap, _∙_}
 use native.Mathlib.Omega.{arith}
 use Prim.Native.Nat.{ℕ, _≤_}
 use denote.Ref.{now}
-use lib.ListN.{length, take, drop}
+use lib.ListN.{length, take}
 use lib.Seq.{length-take-le}
-use Rattle.policy.specs.Policy.{lines, lineLength, peopleIn, behindFirst, readSets, readPolicy, Holds}
-use Rattle.policy.proofs.LinesLaws.{lineAt, behind, behind-most}
-use Rattle.policy.proofs.ReadingLaws.{text-long, text-first}
+use Rattle.policy.specs.Policy.{lines, lineLength, lineOf, peopleIn}
+use Rattle.policy.proofs.LinesLaws.{behind, behind-most}
+use Rattle.policy.proofs.BadLaws.{text-long, first-line, first-bad}
 use borrow.Author.Needs.{needs}
 use Rattle.policy.proofs.read_policy.Statement.{statement}
 use Rattle.policy.proofs.read_policy.Tie as tie
@@ -22,15 +22,12 @@ end-is c = c .line-end .ensures
 end-inside : (c : tie.After-line-end) → c .line-end .result ≤ length (now (start c .args .text))
 end-inside c = omega (arith, end-is c, behind-most (now (start c .args .text)) 0 (omega arith))
 
-said : (c : tie.After-read-people) → peopleIn (lineAt (now (start (c .before .before) .args .text)) 0) ≡ c .read-people .result
+-- what was read is what line 1 of the text gives
+said : (c : tie.After-read-people) → peopleIn (lineOf (lines (now (start (c .before .before) .args .text))) 1) ≡ c .read-people .result
 said c =
     let text = now (start (c .before .before) .args .text) in
     let e : lineLength text ≡ c .before .before .line-end .result = omega (arith, end-is (c .before .before)) in
-    ap (λ (k : ℕ). peopleIn (take k text)) e ∙ sym (c .read-people .ensures)
-
-text-there : (c : tie.After-read-people)
-    → let text = now (start (c .before .before) .args .text) in readPolicy text ≡ behindFirst (peopleIn (lineAt text 0)) (lines (drop (behind text 0) text))
-text-there c = text-first (now (start (c .before .before) .args .text)) (c .before .before .before .if1 .left)
+    ap peopleIn (first-line text .0) ∙ ap (λ (k : ℕ). peopleIn (take k text)) e ∙ sym (c .read-people .ensures)
 
 unreadable-requires : tie.Need-unreadable-requires
 unreadable-requires c κs = search needs
@@ -54,7 +51,9 @@ cast-read-sets : tie.Need-cast-read-sets
 cast-read-sets c = search needs
 
 read-sets-requires : tie.Need-read-sets-requires
-read-sets-requires c κs = end-inside (c .before .before .before .before .before)
+read-sets-requires c κs =
+    let p = c .before .before .before in
+    (p .before .before .before .if1 .left, omega (arith, end-is (p .before .before)), said p ∙ c .before .people .given .1)
 
 enum-told : tie.Need-enum-told
 enum-told c = search needs
@@ -63,16 +62,13 @@ unreadable-requires-2 : tie.Need-unreadable-requires-2
 unreadable-requires-2 c κs = search needs
 
 returns-2 : tie.Need-returns-2
-returns-2 c =
-    let p = c .before .before .before .before in
-    let text = now (start (p .before .before) .args .text) in
-    rw (text-there p, said p, c .before .before .people .given .1)
-    (subst (λ (k : ℕ). Holds (readSets (c .before .before .people .given .0 .0) (lines (drop k text))) (c .read-sets .result)) (end-is (p .before .before)) (c .read-sets .ensures))
+returns-2 c = c .read-sets .ensures
 
 returns-3 : tie.Need-returns-3
 returns-3 c =
     let p = c .before .before .before in
-    rw (text-there p, said p, c .before .enum-told .given .1) (c .unreadable2 .ensures)
+    rw (first-bad (now (start (p .before .before) .args .text)) (p .before .before .before .if1 .left) (said p ∙ c .before .enum-told .given .1))
+    (c .unreadable2 .ensures)
 
 pub read-policy-spec : {M : Type 1} → statement M
 read-policy-spec =

@@ -13,7 +13,7 @@ use Rattle.policy.proofs.read_sets.Statement.{statement}
 use Rattle.policy.proofs.read_sets.Tie as tie
 
 abbrev Inv-loop : tie.InvT-loop
-Inv-loop text start people required₀ forbidden₀ at₀ line₀ required forbidden at line = Going text start required forbidden at line
+Inv-loop text start people required₀ forbidden₀ at₀ line₀ required forbidden at line = Going text required forbidden at line
 
 abbrev μ-loop : tie.MeasureT-loop
 μ-loop text start people required₀ forbidden₀ at₀ line₀ required forbidden at line = length text - at
@@ -53,7 +53,9 @@ no-sets-requires-2 : tie.Need-no-sets-requires-2 Inv-loop μ-loop
 no-sets-requires-2 c κs = search needs
 
 loop-holds : tie.Need-loop-holds Inv-loop μ-loop
-loop-holds c = going-first (c .before .before .before .pre) (c .before .no-sets .ensures) (c .no-sets2 .ensures)
+loop-holds c =
+    let p = c .before .before .before .pre in
+    rw (p .1) (going-first (p .2) (c .before .no-sets .ensures) (c .no-sets2 .ensures))
 
 line-end-requires : tie.Need-line-end-requires Inv-loop μ-loop
 line-end-requires c κs = c .before .loop .inv .inside
@@ -117,12 +119,13 @@ unreadable-requires c κs = search needs
 returns : tie.Need-returns Inv-loop μ-loop
 returns c =
     let r = c .before .before .before in
-    rw (going-bad (looped r .loop .inv) (inside r) (sym (said r) ∙ c .before .enum-told .given .1) (start-of r .args .people)) (c .unreadable .ensures)
+    rw (going-bad (looped r .loop .inv) (inside r) (sym (said r) ∙ c .before .enum-told .given .1) (start-of r .pre .0)) (c .unreadable .ensures)
 
 returns-2 : tie.Need-returns-2 Inv-loop μ-loop
 returns-2 c =
     let l = c .before .loop in
-    rw (going-done (l .inv) (omega arith) (c .before .before .before .before .before .args .people))
+    let p = c .before .before .before .before .before .pre in
+    rw (going-done (l .inv) (omega arith) (p .0) (p .2))
     (record { says = refl; required = l .inv .required-so-far; forbidden = l .inv .forbidden-so-far })
 
 pub read-sets-spec : {M : Type 1} → statement M
