@@ -18,9 +18,9 @@ use Rattle.policy.specs.Policy.{lines, lineLength, lineOf, peopleIn, lin
 use Rattle.policy.proofs.LinesLaws.{line-split}
 
 -- ---- the whole text
-pub text-long : (text : List ℕ) → 16384 < length text → readPolicy text ≡ refused (number Text) 0 0
+pub too-long : (text : List ℕ) → 16384 < length text → readPolicy text ≡ refused (number Text) 0 0
 unfolding readPolicy firstFail
-text-long text h = simp (lt-ltb 16384 (length text) h)
+too-long text h = simp (lt-ltb 16384 (length text) h)
 
 module _ (text : List ℕ) (h : length text ≤ 16384) where
   pub text-bad : (a : ℕ) → badLine (lines text) ≡ a → 1 ≤ a → readPolicy text ≡ refused (number Text) a 0

@@ -10,12 +10,22 @@ use Rattle.policy.specs.Policy.{Keeps}
 use Rattle.policy.specs.Laws as law
 use Rattle.policy.proofs.WritingLaws as writing
 use Rattle.policy.proofs.ShapeLaws as shape
+use Rattle.policy.proofs.TextLaws as refusals
 
 pub reads-written : law.ReadsWritten
 reads-written = writing.reads-written
 
 pub only-written : law.OnlyWritten
 only-written = shape.only-written
+
+pub text-refusal : law.TextRefusal
+text-refusal = refusals.text-refusal
+
+pub text-long : law.TextLong
+text-long = refusals.text-long
+
+pub text-line : law.TextLine
+text-line = refusals.text-line
 
 -- antt compares two records by their fields: what is shown of these at a value's fields is shown of the value
 abbrev sets-of : List ℕ → ℕ → Sets

@@ -4,4 +4,5 @@ pub mod ReadingLaws
 pub mod WritingLaws
 pub mod MembersLaws
 pub mod ShapeLaws
+pub mod TextLaws
 pub mod Laws

@@ -17,12 +17,13 @@ use Rattle.print.specs.Decimal.{digit}
 use Rattle.print.specs.Lines.{feed}
 use Rattle.policy.specs.declared.Found.{Found}
 use Rattle.policy.specs.declared.Found.the-variants.{Number, Nothing}
-use Rattle.policy.specs.declared.Said.{Said}
-use Rattle.policy.specs.declared.Said.the-variants.{Need, Bar, Bad}
+use Rattle.policy.specs.declared.Said.the-variants.{Bad}
 use Rattle.planning.specs.Policy.{Policy}
 use Rattle.policy.specs.Policy.{inFront, lines, begins, peopleWord, pickFound, oneDigit, peopleIn, needWord, barWord, members, pickSaid, needs, bars, lineSays}
-use Rattle.policy.specs.Policy.{isNothing, numberIn, isBad, requiredIn, forbiddenIn, badAt, badLine, policyIn, readPolicy}
-use Rattle.policy.specs.Laws.{Entry, need, bar, setOf, writtenLine, writtenLines, writtenText, requiredAmong, forbiddenAmong, Named, Written}
+use Rattle.policy.specs.Policy.{isNothing, numberIn, isBad, addNeed, addBar, requiredIn, forbiddenIn, badAt, badLine, policyIn, readPolicy}
+use Rattle.policy.specs.Laws.{Entry, need, bar, setOf, writtenLine, writtenLines, peopleLine, writtenText, requiredAmong, forbiddenAmong, Named, Written, EntryLine}
+use Rattle.policy.proofs.LinesLaws.{says-need, says-bar}
+use Rattle.policy.proofs.WritingLaws.{saidBy, add-required, add-forbidden}
 use Rattle.policy.proofs.BadLaws.{none-behind}
 use Rattle.policy.proofs.MembersLaws.{no-number, members-shape}
 
@@ -59,46 +60,33 @@ begins-means (w ∷ word) [] h = absurd (false≢true h)
 begins-means (w ∷ word) (b ∷ line) h = begins-by (eqb b w) b w word line refl (begins-means word line) h
 
 -- ---- what a line says, back to the line
-bad-need : {s : ℕ} {A : Type 0} → Bad ≡ Need s → A
-bad-need e = let z : _≡_ {A = ℕ} 0 1 = cc in let w : ⊥ = omega arith in absurd w
+-- the line is that of the entry, and says its set
+pub record Told (l : List ℕ) : Type 0 where
+  pub line : EntryLine l
+  pub says : lineSays l ≡ saidBy (line .entry)
 
-bad-bar : {s : ℕ} {A : Type 0} → Bad ≡ Bar s → A
-bad-bar e = let z : _≡_ {A = ℕ} 0 1 = cc in let w : ⊥ = omega arith in absurd w
+told-by : (l : List ℕ) (t u : Bool) (f g : Found) → begins needWord l ≡ t → begins barWord l ≡ u
+    → members 48 0 (drop 4 l) ≡ f → members 48 0 (drop 3 l) ≡ g → isBad (pickSaid t (needs f) (pickSaid u (bars g) Bad)) ≡ false → Told l
+unfolding writtenLine
+told-by l true u (Number s) g p q r v h =
+    let m = members-shape (drop 4 l) s r in
+    record {
+      line = record { entry = need s; named = m .0; written = begins-means needWord l p ∙ ap (λ (x : List ℕ). needWord ++ x) (m .1) };
+      says = says-need l p ∙ ap needs r;
+    }
+told-by l true u Nothing g p q r v h = absurd (never h refl)
+told-by l false true f (Number s) p q r v h =
+    let m = members-shape (drop 3 l) s v in
+    record {
+      line = record { entry = bar s; named = m .0; written = begins-means barWord l q ∙ ap (λ (x : List ℕ). barWord ++ x) (m .1) };
+      says = says-bar l p q ∙ ap bars v;
+    }
+told-by l false true f Nothing p q r v h = absurd (never h refl)
+told-by l false false f g p q r v h = absurd (never h refl)
 
-bar-need : {m s : ℕ} {A : Type 0} → Bar m ≡ Need s → A
-bar-need e = let z : _≡_ {A = ℕ} 0 1 = cc in let w : ⊥ = omega arith in absurd w
-
-need-by : (t u : Bool) (f g : Found) (s : ℕ) → pickSaid t (needs f) (pickSaid u (bars g) Bad) ≡ Need s → (t ≡ true) × (f ≡ Number s)
-need-by true u (Number m) g s e = let z : m ≡ s = cc in (refl, ap Number z)
-need-by true u Nothing g s e = bad-need e
-need-by false true f (Number m) s e = bar-need e
-need-by false true f Nothing s e = bad-need e
-need-by false false f g s e = bad-need e
-
-bar-by : (t u : Bool) (f g : Found) (s : ℕ) → pickSaid t (needs f) (pickSaid u (bars g) Bad) ≡ Bar s → (u ≡ true) × (g ≡ Number s)
-bar-by true u (Number m) g s e = bar-need (sym e)
-bar-by true u Nothing g s e = bad-bar e
-bar-by false true f (Number m) s e = let z : m ≡ s = cc in (refl, ap Number z)
-bar-by false true f Nothing s e = bad-bar e
-bar-by false false f g s e = bad-bar e
-
--- the line is that of the entry
-abbrev Line : Entry → List ℕ → Type 0
-Line e l = (setOf e < 512) × (l ≡ writtenLine e)
-
-need-line : (l : List ℕ) (s : ℕ) → lineSays l ≡ Need s → Line (need s) l
-unfolding lineSays writtenLine
-need-line l s e =
-    let r = need-by (begins needWord l) (begins barWord l) (members 48 0 (drop 4 l)) (members 48 0 (drop 3 l)) s e in
-    let m = members-shape (drop 4 l) s (r .1) in
-    (m .0, begins-means needWord l (r .0) ∙ ap (λ (x : List ℕ). needWord ++ x) (m .1))
-
-bar-line : (l : List ℕ) (s : ℕ) → lineSays l ≡ Bar s → Line (bar s) l
-unfolding lineSays writtenLine
-bar-line l s e =
-    let r = bar-by (begins needWord l) (begins barWord l) (members 48 0 (drop 4 l)) (members 48 0 (drop 3 l)) s e in
-    let m = members-shape (drop 3 l) s (r .1) in
-    (m .0, begins-means barWord l (r .0) ∙ ap (λ (x : List ℕ). barWord ++ x) (m .1))
+pub told : (l : List ℕ) → isBad (lineSays l) ≡ false → Told l
+unfolding lineSays
+told l h = told-by l (begins needWord l) (begins barWord l) (members 48 0 (drop 4 l)) (members 48 0 (drop 3 l)) refl refl refl refl h
 
 -- ---- the lines behind the first
 record Entries (ls : List (List ℕ)) : Type 0 where
@@ -113,33 +101,20 @@ named-more {e} {es} h n = record {
   named = λ x m. ⊎-elim (λ (q : x ≡ e). subst (λ (y : Entry). setOf y < 512) (sym q) h) (λ (q : List·Memᴰ x es). n .named x q) (List·Memᴰ·cases-cons m);
 }
 
-entries-by : (x : Said) (l : List ℕ) (ls : List (List ℕ)) → lineSays l ≡ x → isBad x ≡ false → Entries ls → Entries (l ∷ ls)
-unfolding joined writtenLines requiredIn forbiddenIn requiredAmong forbiddenAmong
-entries-by (Need s) l ls e g r =
-    let m = need-line l s e in
-    record {
-      entries = need s ∷ r .entries;
-      named = named-more (m .0) (r .named);
-      text = ap₂ _++_ (m .1) (r .text);
-      required = rw e (ap (λ (t : List ℕ). s ∷ t) (r .required));
-      forbidden = rw e (r .forbidden);
-    }
-entries-by (Bar s) l ls e g r =
-    let m = bar-line l s e in
-    record {
-      entries = bar s ∷ r .entries;
-      named = named-more (m .0) (r .named);
-      text = ap₂ _++_ (m .1) (r .text);
-      required = rw e (r .required);
-      forbidden = rw e (ap (λ (t : List ℕ). s ∷ t) (r .forbidden));
-    }
-entries-by Bad l ls e g r = absurd (never g refl)
-
 entries-of : (ls : List (List ℕ)) → ((i : ℕ) → i < length ls → isBad (lineSays (getD ls i [])) ≡ false) → Entries ls
 unfolding joined writtenLines requiredIn forbiddenIn requiredAmong forbiddenAmong
 entries-of [] h =
     record { entries = []; named = record { named = λ x m. absurd (List·Memᴰ·not-nil m) }; text = refl; required = refl; forbidden = refl }
-entries-of (l ∷ ls) h = entries-by (lineSays l) l ls refl (h 0 (omega arith)) (entries-of ls (λ i k. h (suc i) (omega arith)))
+entries-of (l ∷ ls) h =
+    let t = told l (h 0 (omega arith)) in
+    let r = entries-of ls (λ i k. h (suc i) (omega arith)) in
+    record {
+      entries = t .line .entry ∷ r .entries;
+      named = named-more (t .line .named) (r .named);
+      text = ap₂ _++_ (t .line .written) (r .text);
+      required = ap₂ addNeed (t .says) (r .required) ∙ add-required (t .line .entry) (r .entries);
+      forbidden = ap₂ addBar (t .says) (r .forbidden) ∙ add-forbidden (t .line .entry) (r .entries);
+    }
 
 -- ---- the first line
 found-by : (t : Bool) (f : Found) (n : ℕ) → pickFound t f Nothing ≡ Number n → (t ≡ true) × (f ≡ Number n)
@@ -165,26 +140,25 @@ digit-shape (d ∷ []) n e = no-number e
 digit-shape (d ∷ (b ∷ [])) n e = digit-by (leb 48 d && leb d 57 && eqb b 10) d b n refl e
 digit-shape (d ∷ (b ∷ (c ∷ r))) n e = no-number e
 
-first-shape : (l : List ℕ) (n : ℕ) → peopleIn l ≡ Number n → (n ≤ 9) × (l ≡ peopleWord ++ digit n ∷ feed)
+first-by : (x : Found) (l : List ℕ) → peopleIn l ≡ x → isNothing x ≡ false → (numberIn x ≤ 9) × (l ≡ peopleLine (numberIn x))
 unfolding peopleIn
-first-shape l n e =
+first-by (Number n) l e h =
     let f = found-by (begins peopleWord l) (oneDigit (drop 7 l)) n e in
     let d = digit-shape (drop 7 l) n (f .1) in
     (d .0, begins-means peopleWord l (f .0) ∙ ap (λ (x : List ℕ). peopleWord ++ x) (d .1))
+first-by Nothing l e h = absurd (never h refl)
+
+pub first-shape : (l : List ℕ) → isNothing (peopleIn l) ≡ false → (numberIn (peopleIn l) ≤ 9) × (l ≡ peopleLine (numberIn (peopleIn l)))
+first-shape l h = first-by (peopleIn l) l refl h
 
 -- ---- the whole text
-first-by : (x : Found) (l : List ℕ) → peopleIn l ≡ x → isNothing x ≡ false
-    → (numberIn x ≤ 9) × (l ≡ peopleWord ++ digit (numberIn x) ∷ feed)
-first-by (Number n) l e g = first-shape l n e
-first-by Nothing l e g = absurd (never g refl)
-
 lines-shape : (ls : List (List ℕ)) → badLine ls ≡ 0 → Written (joined ls) (policyIn ls)
 unfolding badLine badAt peopleIn begins joined policyIn writtenText
 lines-shape [] z = absurd (false≢true (sym (none-in (badAt []) 1 2 (omega arith) z 1 (omega arith) (omega arith))))
 lines-shape (l ∷ ls) z =
     let n = none-behind l ls z in
     let es = entries-of ls (n .1) in
-    let f = first-by (peopleIn l) l refl (n .0) in
+    let f = first-shape l (n .0) in
     record {
       entries = es .entries;
       people = f .0;

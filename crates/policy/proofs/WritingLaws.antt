@@ -1,7 +1,7 @@
 -- Reading what was written: every line that is written from a set is one line, and says that set. A computed test of the 512 sets.
 -- Assumes nothing.
 use borrow.Author.Tests.{eqb-true}
-use mathlib.Core.Path.{_≡_, refl, ap, _∙_}
+use mathlib.Core.Path.{_≡_, refl, ap, ap₂, _∙_}
 use mathlib.Core.Bool.{Bool, true, false, cond, _&&_, false≢true}
 use mathlib.Core.List.{List, [], _∷_, _++_, map, List·Memᴰ·head, List·Memᴰ·tail}
 use native.Mathlib.Omega.{arith}
@@ -13,17 +13,17 @@ use Rattle.answer.specs.Places.{those}
 use Rattle.planning.specs.Sets.{member, each}
 use Rattle.answer.proofs.Truth.{both}
 use Rattle.planning.proofs.EachLaws.{each-at}
-use Rattle.print.specs.Decimal.{digit, digits}
+use Rattle.print.specs.Decimal.{digits}
 use Rattle.print.specs.Lines.{spaced, spacedAll, feed}
 use Rattle.policy.specs.declared.Found.{Found}
 use Rattle.policy.specs.declared.Found.the-variants.{Number, Nothing}
 use Rattle.policy.specs.declared.Said.{Said}
 use Rattle.policy.specs.declared.Said.the-variants.{Need, Bar}
 use Rattle.planning.specs.Policy.{policyOf}
-use Rattle.policy.specs.Policy.{inFront, lines, begins, peopleWord, oneDigit, peopleIn, members, needs, bars, lineSays}
-use Rattle.policy.specs.Policy.{isNothing, isBad, requiredIn, forbiddenIn, badLine, policyIn, readPolicy}
+use Rattle.policy.specs.Policy.{inFront, lines, begins, oneDigit, peopleIn, members, needs, bars, lineSays}
+use Rattle.policy.specs.Policy.{isNothing, isBad, addNeed, addBar, requiredIn, forbiddenIn, badLine, policyIn, readPolicy}
 use Rattle.policy.proofs.BadLaws.{text-good, none-bad}
-use Rattle.policy.specs.Laws.{Entry, need, bar, setOf, peopleOf, writtenLine, writtenLines, writtenText, requiredAmong, forbiddenAmong, Named}
+use Rattle.policy.specs.Laws.{Entry, need, bar, setOf, peopleOf, writtenLine, writtenLines, peopleLine, writtenText, requiredAmong, forbiddenAmong, Named}
 
 -- ---- one line
 empty : List ℕ → Bool
@@ -31,7 +31,7 @@ empty [] = true
 empty (b ∷ l) = false
 
 -- a list whose only line feed is its last byte
-isLine : List ℕ → Bool
+pub isLine : List ℕ → Bool
 isLine [] = false
 isLine (b ∷ l) = cond (eqb b 10) (empty l) (isLine l)
 
@@ -60,11 +60,8 @@ unfolding isNumber
 number-is n (Number m) h = ap Number (eqb-true m n h)
 number-is n Nothing h = absurd (false≢true h)
 
-abbrev firstOf : ℕ → List ℕ
-firstOf n = peopleWord ++ digit n ∷ feed
-
 rightFirst : ℕ → Bool
-rightFirst n = isLine (firstOf n) && isNumber n (peopleIn (firstOf n))
+rightFirst n = isLine (peopleLine n) && isNumber n (peopleIn (peopleLine n))
 
 all-first : each 10 (λ i. rightFirst (i - 1)) ≡ true
 unfolding rightFirst isLine empty isNumber each peopleIn begins oneDigit
@@ -87,11 +84,11 @@ below-each test n h s l =
     let e : s + 1 - 1 ≡ s = omega arith in
     rw e at (each-at n (λ i. test (i - 1)) h (s + 1) (omega arith) (omega arith))
 
-first-right : (n : ℕ) → n ≤ 9 → (isLine (firstOf n) ≡ true) × (peopleIn (firstOf n) ≡ Number n)
+pub first-right : (n : ℕ) → n ≤ 9 → (isLine (peopleLine n) ≡ true) × (peopleIn (peopleLine n) ≡ Number n)
 unfolding rightFirst
 first-right n h =
-    let r = both (isLine (firstOf n)) (isNumber n (peopleIn (firstOf n))) (below-each rightFirst 10 all-first n (omega arith)) in
-    (r .0, number-is n (peopleIn (firstOf n)) (r .1))
+    let r = both (isLine (peopleLine n)) (isNumber n (peopleIn (peopleLine n))) (below-each rightFirst 10 all-first n (omega arith)) in
+    (r .0, number-is n (peopleIn (peopleLine n)) (r .1))
 
 set-right : (s : ℕ) → s < 512 → (isLine (body s) ≡ true) × (members 48 0 (body s) ≡ Number s)
 unfolding rightSet
@@ -100,7 +97,7 @@ set-right s h =
     (r .0, number-is s (members 48 0 (body s)) (r .1))
 
 -- ---- the line of an entry
-abbrev saidBy : Entry → Said
+abbrev pub saidBy : Entry → Said
 saidBy (need s) = Need s
 saidBy (bar s) = Bar s
 
@@ -121,7 +118,7 @@ entry-first e rest h = line-first (writtenLine e) rest (entry-line e h)
 named-first : {e : Entry} {es : List Entry} → Named (e ∷ es) → (setOf e < 512) × Named es
 named-first {e} {es} n = (n .named e (List·Memᴰ·head refl), record { named = λ x m. n .named x (List·Memᴰ·tail m) })
 
-entry-good : (e : Entry) → setOf e < 512 → isBad (lineSays (writtenLine e)) ≡ false
+pub entry-good : (e : Entry) → setOf e < 512 → isBad (lineSays (writtenLine e)) ≡ false
 entry-good (need s) h = ap isBad (entry-says (need s) h)
 entry-good (bar s) h = ap isBad (entry-says (bar s) h)
 
@@ -137,25 +134,25 @@ all-good [] n i h = absurd (omega arith)
 all-good (e ∷ es) n zero h = entry-good e (named-first n .0)
 all-good (e ∷ es) n (suc i) h = all-good es (named-first n .1) i (omega arith)
 
+pub add-required : (e : Entry) (es : List Entry) → addNeed (saidBy e) (requiredAmong es) ≡ requiredAmong (e ∷ es)
+unfolding requiredAmong
+add-required (need s) es = refl
+add-required (bar s) es = refl
+
+pub add-forbidden : (e : Entry) (es : List Entry) → addBar (saidBy e) (forbiddenAmong es) ≡ forbiddenAmong (e ∷ es)
+unfolding forbiddenAmong
+add-forbidden (need s) es = refl
+add-forbidden (bar s) es = refl
+
 required-again : (es : List Entry) → Named es → requiredIn (map writtenLine es) ≡ requiredAmong es
 unfolding requiredIn requiredAmong
 required-again [] n = refl
-required-again (need s ∷ es) n =
-    let m = named-first n in
-    rw (entry-says (need s) (m .0)) (ap (λ (l : List ℕ). s ∷ l) (required-again es (m .1)))
-required-again (bar s ∷ es) n =
-    let m = named-first n in
-    rw (entry-says (bar s) (m .0)) (required-again es (m .1))
+required-again (e ∷ es) n = let m = named-first n in ap₂ addNeed (entry-says e (m .0)) (required-again es (m .1)) ∙ add-required e es
 
 forbidden-again : (es : List Entry) → Named es → forbiddenIn (map writtenLine es) ≡ forbiddenAmong es
 unfolding forbiddenIn forbiddenAmong
 forbidden-again [] n = refl
-forbidden-again (need s ∷ es) n =
-    let m = named-first n in
-    rw (entry-says (need s) (m .0)) (forbidden-again es (m .1))
-forbidden-again (bar s ∷ es) n =
-    let m = named-first n in
-    rw (entry-says (bar s) (m .0)) (ap (λ (l : List ℕ). s ∷ l) (forbidden-again es (m .1)))
+forbidden-again (e ∷ es) n = let m = named-first n in ap₂ addBar (entry-says e (m .0)) (forbidden-again es (m .1)) ∙ add-forbidden e es
 
 -- ---- the whole text
 pub reads-written : (n : ℕ) (es : List Entry) → n ≤ 9 → Named es → length (writtenText n es) ≤ 16384
@@ -163,10 +160,10 @@ pub reads-written : (n : ℕ) (es : List Entry) → n ≤ 9 → Named es → len
 unfolding writtenText policyIn
 reads-written n es h m l =
     let f = first-right n h in
-    let ls = firstOf n ∷ map writtenLine es in
+    let ls = peopleLine n ∷ map writtenLine es in
     let all : lines (writtenText n es) ≡ ls =
-    line-first (firstOf n) (writtenLines es) (f .0) ∙ ap (λ (k : List (List ℕ)). firstOf n ∷ k) (lines-again es m)
+    line-first (peopleLine n) (writtenLines es) (f .0) ∙ ap (λ (k : List (List ℕ)). peopleLine n ∷ k) (lines-again es m)
     in
-    let none : badLine ls ≡ 0 = none-bad (firstOf n) (map writtenLine es) (ap isNothing (f .1)) (all-good es m) in
+    let none : badLine ls ≡ 0 = none-bad (peopleLine n) (map writtenLine es) (ap isNothing (f .1)) (all-good es m) in
     text-good (writtenText n es) l (ap badLine all ∙ none) ∙ ap (λ (k : List (List ℕ)). done (policyIn k)) all
     ∙ rw (f .1, required-again es m, forbidden-again es m)

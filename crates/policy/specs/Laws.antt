@@ -2,16 +2,18 @@
 -- Assumes nothing.
 use mathlib.Core.Path.{_≡_}
 use mathlib.Core.List.{List, [], _∷_, _++_, List·Memᴰ}
+use mathlib.Core.Logic.{_⊎_}
 use Prim.Native.Nat.{ℕ, _≤_, _<_, _^_}
 use lib.ListN.{length}
-use Rattle.answer.specs.Outcome.{Outcome, done}
+use Rattle.answer.specs.declared.Kind.the-variants.{Text}
+use Rattle.answer.specs.Outcome.{Outcome, done, refused, number}
 use Rattle.answer.specs.Places.{those}
 use Rattle.planning.specs.Sets.{member}
 use Rattle.planning.specs.Policy.{Policy, policyOf}
 use Rattle.print.specs.Decimal.{digit}
 use Rattle.print.specs.Lines.{spacedAll, feed}
 use Rattle.policy.specs.declared.PolicyText.{PolicyText}
-use Rattle.policy.specs.Policy.{peopleWord, needWord, barWord, readPolicy, Holds}
+use Rattle.policy.specs.Policy.{lines, lineOf, peopleWord, needWord, barWord, readPolicy, Holds}
 
 -- ---- writing a policy text
 -- a line behind the first, to be written: a required set or a forbidden one
@@ -42,9 +44,13 @@ unfoldable pub writtenLines : List Entry → List ℕ
 writtenLines [] = []
 writtenLines (e ∷ es) = writtenLine e ++ writtenLines es
 
+-- the first line for n people
+abbrev pub peopleLine : ℕ → List ℕ
+peopleLine n = peopleWord ++ digit n ∷ feed
+
 -- the first line, and a line for each entry, in order
 unfoldable pub writtenText : ℕ → List Entry → List ℕ
-writtenText n es = peopleWord ++ (digit n ∷ feed) ++ writtenLines es
+writtenText n es = peopleLine n ++ writtenLines es
 
 -- the required sets among the entries, in order
 unfoldable pub requiredAmong : List Entry → List ℕ
@@ -86,3 +92,39 @@ pub record Written (text : List ℕ) (p : Policy) : Type 0 where
 -- ends with a line feed".
 abbrev pub OnlyWritten : Type 0
 OnlyWritten = (text : List ℕ) (p : Policy) → readPolicy text ≡ done p → Written text p × (length text ≤ 16384)
+
+-- ---- refusal 21
+-- the line gives the people by one digit
+pub record PeopleLine (l : List ℕ) : Type 0 where
+  pub people : ℕ
+  pub digit-is : people ≤ 9
+  pub written : l ≡ peopleLine people
+
+-- the line is that of an entry whose set is one of the people 1 to 9
+pub record EntryLine (l : List ℕ) : Type 0 where
+  pub entry : Entry
+  pub named : setOf entry < 2 ^ 9
+  pub written : l ≡ writtenLine entry
+
+-- line i is well written: line 1 gives the people, another a set
+abbrev pub WellWritten : ℕ → List ℕ → Type 0
+WellWritten i l = ((i ≡ 1) × PeopleLine l) ⊎ ((2 ≤ i) × EntryLine l)
+
+-- line a is the first that is not well written: a line of the text, or line 1 of an empty text
+pub record FirstBad (text : List ℕ) (a : ℕ) : Type 0 where
+  pub from : 1 ≤ a
+  pub there : (a ≤ length (lines text)) ⊎ ((text ≡ []) × (a ≡ 1))
+  pub before : (i : ℕ) → 1 ≤ i → i < a → WellWritten i (lineOf (lines text) i)
+  pub bad : WellWritten a (lineOf (lines text) a) → ⊥
+
+-- A text is refused with 21 and b = 0, and with nothing else.
+abbrev pub TextRefusal : Type 0
+TextRefusal = (text : List ℕ) (m a b : ℕ) → readPolicy text ≡ refused m a b → (m ≡ number Text) × (b ≡ 0)
+
+-- a = 0 says that the text has more than 16,384 bytes.
+abbrev pub TextLong : Type 0
+TextLong = (text : List ℕ) (m a b : ℕ) → readPolicy text ≡ refused m a b → (a ≡ 0 → 16384 < length text) × (16384 < length text → a ≡ 0)
+
+-- In a text of at most 16,384 bytes, line a is the first bad one.
+abbrev pub TextLine : Type 0
+TextLine = (text : List ℕ) (m a b : ℕ) → readPolicy text ≡ refused m a b → length text ≤ 16384 → FirstBad text a

@@ -8,7 +8,7 @@ use lib.ListN.{length, take}
 use lib.Seq.{length-take-le}
 use Rattle.policy.specs.Policy.{lines, lineLength, lineOf, peopleIn}
 use Rattle.policy.proofs.LinesLaws.{behind, behind-most}
-use Rattle.policy.proofs.BadLaws.{text-long, first-line, first-bad}
+use Rattle.policy.proofs.BadLaws.{too-long, first-line, first-bad}
 use borrow.Author.Needs.{needs}
 use Rattle.policy.proofs.read_policy.Statement.{statement}
 use Rattle.policy.proofs.read_policy.Tie as tie
@@ -33,7 +33,7 @@ unreadable-requires : tie.Need-unreadable-requires
 unreadable-requires c κs = search needs
 
 returns : tie.Need-returns
-returns c = rw (text-long (now (c .before .before .before .args .text)) (c .before .if1 .taken)) (c .unreadable .ensures)
+returns c = rw (too-long (now (c .before .before .before .args .text)) (c .before .if1 .taken)) (c .unreadable .ensures)
 
 line-end-requires : tie.Need-line-end-requires
 line-end-requires c κs = search needs
