@@ -1,2 +1,3 @@
 pub mod ListingLaws
 pub mod PlanLaws
+pub mod Laws
