@@ -46,7 +46,7 @@ all p = whole _
 
 on1 : (c : tie.Else2) → Left (c .before .before .before .before) left1
 unfolding people
-on1 c = passes (all (policyOf _ _ _)) (rw (ne-eqb _ _ (c .before .if1 .left), le-ltb _ _ (c .if2 .left)))
+on1 c = passes (all _) (rw (ne-eqb _ _ (c .before .if1 .left), le-ltb _ _ (c .if2 .left)))
 
 on2 : (c : tie.Else3) → Left (c .before .before .before .before .before) left2
 unfolding long
@@ -77,14 +77,14 @@ refuse-requires c κs = search needs
 
 returns : tie.Need-returns
 unfolding people
-returns c = c .refuse .ensures ∙ speaks (all (policyOf _ _ _)) (or-l _ (eq-eqb _ _ (c .before .if1 .taken)))
+returns c = c .refuse .ensures ∙ speaks (all _) (or-l _ (eq-eqb _ _ (c .before .if1 .taken)))
 
 refuse-requires-2 : tie.Need-refuse-requires-2
 refuse-requires-2 c κs = search needs
 
 returns-2 : tie.Need-returns-2
 unfolding people
-returns-2 c = c .refuse2 .ensures ∙ speaks (all (policyOf _ _ _)) (or-r (eqb (c .before .before .before .before .before .args .people) 0) (lt-ltb _ _ (c .before .if2 .taken)))
+returns-2 c = c .refuse2 .ensures ∙ speaks (all _) (or-r (eqb (c .before .before .before .before .before .args .people) 0) (lt-ltb _ _ (c .before .if2 .taken)))
 
 refuse-requires-3 : tie.Need-refuse-requires-3
 refuse-requires-3 c κs = search needs
