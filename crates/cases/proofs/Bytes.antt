@@ -23,8 +23,10 @@ use Rattle.block.specs.Written.{body, blockBytes}
 use Rattle.dealing.specs.Deal.{blockFor, flat, pieceCount, held, card}
 use Rattle.dealing.specs.Dealt.{badNumber, badHolder, badWidth, badSecret, badCount, badRandom, inputLines, blockCount, dealLines, dealing, Made}
 use Rattle.dealing.proofs.Laws as law
-use Rattle.joining.specs.Pile.{blocks, restFrom, sameWords, sameDeal, placeOf, differIn, present}
-use Rattle.joining.specs.Joined.{linesFrom, everyBlock, mixedAt, contradicts, contradictedBy, conflictAt, joinLines, joining}
+use Rattle.pile.specs.Blocks.{blocks, restFrom}
+use Rattle.joining.specs.Pile.{sameWords, sameDeal, placeOf, differIn, present}
+use Rattle.pile.specs.Lines.{linesFrom, everyBlock}
+use Rattle.joining.specs.Joined.{mixedAt, contradicts, contradictedBy, conflictAt, joinLines, joining}
 use Rattle.cases.specs.Plain.{set}
 use Rattle.cases.specs.Table.{deal11, words11, pile12}
 

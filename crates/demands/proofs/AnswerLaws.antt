@@ -16,7 +16,8 @@ use Rattle.planning.specs.Groups.{_∈_}
 use Rattle.dealing.specs.Deal.{Deal, pieceCount, held, values}
 use Rattle.dealing.proofs.HeldLaws.{held-in}
 use Rattle.dealing.proofs.MadeLaws.{InRange}
-use Rattle.joining.specs.Pile.{blocks, placeOf, valueOf}
+use Rattle.pile.specs.Blocks.{blocks}
+use Rattle.joining.specs.Pile.{placeOf, valueOf}
 use Rattle.joining.specs.Joined.{joining}
 use Rattle.joining.specs.Secret.{column, secret}
 use Rattle.joining.specs.Laws.{Joins}

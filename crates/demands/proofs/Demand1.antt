@@ -12,8 +12,10 @@ use Rattle.dealing.specs.Dealt.{badNumber, badHolder, badWidth, badSecret, badC
 use Rattle.dealing.proofs.DealLaws.{refused-deal}
 use Rattle.dealing.proofs.MadeLaws.{made-in-range}
 use Rattle.dealing.proofs.Laws as dealt
-use Rattle.joining.specs.Pile.{blocks, width}
-use Rattle.joining.specs.Joined.{everyBlock, wholeLines, joinLines, joining}
+use Rattle.pile.specs.Blocks.{blocks}
+use Rattle.joining.specs.Pile.{width}
+use Rattle.pile.specs.Lines.{everyBlock}
+use Rattle.joining.specs.Joined.{wholeLines, joinLines, joining}
 use Rattle.joining.proofs.Laws as joined
 use Rattle.demands.specs.Demand1 as demand
 use Rattle.demands.proofs.LineLaws.{ends, refuses, each-number, each-within}

@@ -14,7 +14,7 @@ use Rattle.answer.proofs.CheckLaws.{passed-none, passed-one, refused-by}
 use Rattle.planning.specs.Groups.{_∈_, some}
 use Rattle.answer.proofs.Truth.{never, isn't, neither}
 use Rattle.planning.proofs.SomeLaws.{in-some}
-use Rattle.joining.specs.Joined.{linesFrom}
+use Rattle.pile.specs.Lines.{linesFrom}
 use Rattle.demands.specs.Demand1.{Speaks, Ends, numbers, eachBlock}
 
 -- ---- with a line more in front

@@ -20,8 +20,9 @@ use Rattle.dealing.specs.Deal.{Deal, pieceCount, held, values, blockOf, cardBlo
 use Rattle.dealing.proofs.HeldLaws.{held-in}
 use Rattle.dealing.proofs.MadeLaws.{InRange}
 use Rattle.joining.specs.Pile as Pile
-use Rattle.joining.specs.Pile.{blocks, restFrom, width, pieceAt, hasPiece, placeOf, valueOf, present}
-use Rattle.joining.specs.Laws.{In, Sound}
+use Rattle.pile.specs.Blocks.{blocks, restFrom, In}
+use Rattle.joining.specs.Pile.{width, pieceAt, hasPiece, placeOf, valueOf, present}
+use Rattle.joining.specs.Laws.{Sound}
 use Rattle.joining.proofs.SoundLaws.{place-held}
 use Rattle.demands.specs.Group.{Member, CardsOf, WholeCards, gathers, gathered}
 use Rattle.demands.specs.Demand2.{CardBlock}

@@ -14,9 +14,10 @@ use Rattle.block.specs.Words.{wordAt}
 use Rattle.block.specs.Open.{firstAbove, blockLines, TrueBlock}
 use Rattle.block.proofs.OpenLaws.{small-of, says-unread}
 use Rattle.block.proofs.Laws.{true-means}
-use Rattle.joining.specs.Pile.{blocks, restFrom, word, width}
-use Rattle.joining.specs.Joined.{linesFrom, everyBlock, wholeLines, joining}
-use Rattle.joining.specs.Laws.{In}
+use Rattle.pile.specs.Blocks.{blocks, restFrom, word, In}
+use Rattle.joining.specs.Pile.{width}
+use Rattle.pile.specs.Lines.{linesFrom, everyBlock}
+use Rattle.joining.specs.Joined.{wholeLines, joining}
 use Rattle.joining.proofs.ChainLaws.{is-whole, not-long}
 
 above-found : (b : List ℕ) (i : ℕ) → 1 ≤ i → i ≤ 256 → 32748 < wordAt b i → firstAbove b ≢ 0

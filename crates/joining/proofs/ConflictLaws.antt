@@ -15,7 +15,8 @@ use Rattle.answer.specs.Checks.{firstFail}
 use Rattle.answer.proofs.Truth.{and-no, and-none}
 use Rattle.answer.specs.Places.{firstFrom, firstIn, found}
 use Rattle.answer.proofs.FirstLaws.{none-in, first-all, first-hit, first-miss, first-none, first-of, is-first, has-test, below-end}
-use Rattle.joining.specs.Pile.{blocks, firstBlock, width, pieceAt, hasPiece, placeOf, valueOf, differIn}
+use Rattle.pile.specs.Blocks.{blocks, firstBlock}
+use Rattle.joining.specs.Pile.{width, pieceAt, hasPiece, placeOf, valueOf, differIn}
 use Rattle.joining.specs.Joined.{contradicts, contradictedBy, conflictAt, conflict}
 use Rattle.answer.specs.Laws.{IsFirst}
 

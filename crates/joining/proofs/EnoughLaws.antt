@@ -18,7 +18,8 @@ use Rattle.answer.proofs.ThoseLaws.{those-same, count-hit, count-miss}
 use Rattle.block.specs.Words.{wordAt}
 use Rattle.lists.specs.Run.{run}
 use Rattle.lists.proofs.RunLaws.{run-at}
-use Rattle.joining.specs.Pile.{blocks, restFrom, pieceCount, width, placeOf, present}
+use Rattle.pile.specs.Blocks.{blocks, restFrom}
+use Rattle.joining.specs.Pile.{pieceCount, width, placeOf, present}
 use Rattle.joining.specs.Joined.{enough}
 use Rattle.joining.specs.True.{marked}
 

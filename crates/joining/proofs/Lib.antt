@@ -1,5 +1,4 @@
 pub mod PileLaws
-pub mod WalkLaws
 pub mod TableLaws
 pub mod ConflictLaws
 pub mod EnoughLaws

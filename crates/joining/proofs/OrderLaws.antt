@@ -10,11 +10,12 @@ use Rattle.field.specs.Poly.{p, value}
 use Rattle.field.specs.Joined.{joined}
 use Rattle.lists.proofs.RunLaws.{run-is, run-length}
 use Rattle.block.specs.Layout.{dealOf}
-use Rattle.joining.specs.Pile.{blocks, restFrom, word, pieceCount, width, pieceAt, valueOf}
+use Rattle.pile.specs.Blocks.{blocks, restFrom, word, TrueBlocks}
+use Rattle.joining.specs.Pile.{pieceCount, width, pieceAt, valueOf}
 use Rattle.joining.specs.Secret.{column, secret}
-use Rattle.joining.specs.True.{TrueBlocks}
 use Rattle.joining.specs.Laws.{Joins, Fits, Alike, Among, Within}
-use Rattle.joining.proofs.PileLaws.{width-in, rest-long, true-same}
+use Rattle.pile.proofs.PileLaws.{rest-long}
+use Rattle.joining.proofs.PileLaws.{width-in, true-same}
 use Rattle.joining.proofs.PolyLaws.{joined-secret, word-of}
 
 -- blocks that are alike agree in their deal, piece and values

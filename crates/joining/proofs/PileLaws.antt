@@ -1,18 +1,17 @@
 -- Laws of a pile's blocks: where the rest of it begins, and what its true blocks say. Assumes nothing.
-use mathlib.Core.Path.{_≡_, sym, ap, _∙_}
+use mathlib.Core.Path.{_≡_, sym, _∙_}
 use mathlib.Core.Bool.{true, false}
 use mathlib.Core.List.{List}
-use Prim.Native.Nat.{ℕ, _+_, _-_, _*_, _≤_}
+use Prim.Native.Nat.{ℕ, _≤_}
 use native.Mathlib.Omega.{arith}
 use lib.Dec.{eqb}
-use lib.ListN.{length, drop, take, length-drop}
-use lib.Seq.{drop-drop, take-all}
+use lib.ListN.{length}
 use borrow.Author.Tests.{eq-eqb, ne-eqb}
 use Rattle.block.specs.Words.{wordAt}
 use Rattle.block.specs.Open.{TrueBlock}
 use Rattle.block.proofs.SumLaws.{check-same}
-use Rattle.joining.specs.Pile.{blocks, restFrom, word, width, pieceCount, pieceAt}
-use Rattle.joining.specs.True.{TrueBlocks}
+use Rattle.pile.specs.Blocks.{blocks, TrueBlocks}
+use Rattle.joining.specs.Pile.{width, pieceCount, pieceAt}
 
 -- a test of two numbers, by what they are
 pub equal : {x y u v : ℕ} → x ≡ u → y ≡ v → x ≡ y → eqb u v ≡ true
@@ -20,13 +19,6 @@ equal {u = u} {v = v} p q e = eq-eqb u v (sym p ∙ e ∙ q)
 
 pub other : {x y u v : ℕ} → x ≡ u → y ≡ v → (x ≡ y → ⊥) → eqb u v ≡ false
 other {u = u} {v = v} p q f = ne-eqb u v (λ e. f (p ∙ e ∙ sym q))
-
--- past block a
-pub rest-next : (pile : List ℕ) (a : ℕ) → 1 ≤ a → drop 512 (restFrom pile a) ≡ restFrom pile (a + 1)
-unfolding restFrom
-rest-next pile a l =
-    let e : 512 * (a - 1) + 512 ≡ 512 * (a + 1 - 1) = omega arith in
-    drop-drop 512 (512 * (a - 1)) pile ∙ ap (λ (n : ℕ). drop n pile) e
 
 -- what a true block says of its words, in the pile's terms
 pub width-in : (pile : List ℕ) → TrueBlocks pile → 1 ≤ blocks pile → (1 ≤ width pile) × (width pile ≤ 16)
@@ -39,18 +31,6 @@ pub piece-in : (pile : List ℕ) → TrueBlocks pile → (a : ℕ) → 1 ≤ a �
 piece-in pile t a l h =
     let y = t .block a l h .layout in
     (y .piece .0, omega (arith, y .piece .1, y .pieces .1))
-
-pub word-small : (pile : List ℕ) → TrueBlocks pile → (a i : ℕ) → 1 ≤ a → a ≤ blocks pile → 1 ≤ i → i ≤ 256 → word pile a i ≤ 32748
-word-small pile t a i l h m n = t .block a l h .clean .small i m n
-
--- block a of a pile has its 512 bytes
-pub rest-long : (pile : List ℕ) (a : ℕ) → 1 ≤ a → a ≤ blocks pile → 512 ≤ length (restFrom pile a)
-unfolding restFrom blocks
-rest-long pile a l h = rw (length-drop (512 * (a - 1)) pile) (omega arith)
-
--- what `&pile[at..]` is: the pile from byte `at` on
-pub part-rest : (l : List ℕ) (at : ℕ) → take (length l - at) (drop at l) ≡ drop at l
-part-rest l at = take-all (length l - at) (drop at l) (omega (arith, length-drop at l))
 
 -- a block with the words of a true block is one
 pub true-same : (b c : List ℕ) → TrueBlock b → 512 ≤ length c → ((i : ℕ) → 1 ≤ i → i ≤ 256 → wordAt c i ≡ wordAt b i) → TrueBlock c

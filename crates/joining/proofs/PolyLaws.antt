@@ -12,10 +12,11 @@ use Rattle.field.proofs.Laws.{joined-one}
 use Rattle.lists.proofs.RunLaws.{run-at}
 use Rattle.block.specs.Words.{wordAt}
 use Rattle.block.specs.Layout.{dealOf}
-use Rattle.joining.specs.Pile.{blocks, restFrom, word, pieceCount, width, pieceAt, placeOf}
+use Rattle.pile.specs.Blocks.{blocks, restFrom, word, In}
+use Rattle.joining.specs.Pile.{pieceCount, width, pieceAt, placeOf}
 use Rattle.joining.specs.Secret.{column, secret}
 use Rattle.joining.specs.True.{Full}
-use Rattle.joining.specs.Laws.{In, Sound, Joins, Fits}
+use Rattle.joining.specs.Laws.{Sound, Joins, Fits}
 use Rattle.joining.proofs.PileLaws.{pieces-in}
 use Rattle.joining.proofs.SecretLaws.{column-length, column-at, column-below}
 use Rattle.joining.proofs.SoundLaws.{place-held, place-has}

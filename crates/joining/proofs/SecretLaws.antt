@@ -17,7 +17,8 @@ use Rattle.lists.proofs.RunLaws.{run-length, run-at, run-end}
 use Rattle.joining.specs.Pile.{pieceCount, width, placeOf, valueOf}
 use Rattle.joining.specs.Secret.{column}
 use Rattle.joining.specs.True.{Full}
-use Rattle.joining.proofs.PileLaws.{width-in, word-small}
+use Rattle.pile.proofs.PileLaws.{word-small}
+use Rattle.joining.proofs.PileLaws.{width-in}
 use Rattle.joining.proofs.TableLaws.{place-most}
 
 -- ---- a run that is written over the front of a list: one number more

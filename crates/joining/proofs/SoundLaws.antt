@@ -19,13 +19,16 @@ use Rattle.answer.proofs.CheckLaws.{append-lines, passed, passed-one, passed-no
 use Rattle.answer.proofs.FirstLaws.{none-in, first-all, has-test, first-of, found-some, found-none, none-found}
 use Rattle.answer.proofs.ThoseLaws.{those-few, those-all, those-full}
 use Rattle.block.specs.Layout.{dealOf}
-use Rattle.joining.specs.Pile.{blocks, restFrom, sameWords, sameDeal, pieceCount, width, pieceAt, hasPiece, placeOf, valueOf, differIn, present}
-use Rattle.joining.specs.Joined.{torn, long, everyBlock, mixedAt, mixed, contradicts, contradictedBy, conflictAt, conflict, short, narrow, wholeLines, joinLines, joining, enough}
-use Rattle.joining.specs.Laws.{In, Sound, Joins}
+use Rattle.pile.specs.Blocks.{blocks, restFrom, In}
+use Rattle.joining.specs.Pile.{sameWords, sameDeal, pieceCount, width, pieceAt, hasPiece, placeOf, valueOf, differIn, present}
+use Rattle.pile.specs.Lines.{tornPile, longPile, everyBlock}
+use Rattle.joining.specs.Joined.{mixedAt, mixed, contradicts, contradictedBy, conflictAt, conflict, short, narrow, wholeLines, joinLines, joining, enough}
+use Rattle.joining.specs.Laws.{Sound, Joins}
 use Rattle.joining.proofs.TableLaws.{place-most}
 use Rattle.joining.proofs.ConflictLaws.{Same, of-same, apart}
 use Rattle.joining.proofs.EnoughLaws.{enough-short, enough-none}
-use Rattle.joining.proofs.ChainLaws.{accepted, true-blocks}
+use Rattle.pile.proofs.LineLaws.{true-blocks}
+use Rattle.joining.proofs.ChainLaws.{accepted}
 
 -- ---- two lists of words are the same exactly where the test says so
 words-are : (xs ys : List ℕ) → sameWords xs ys ≡ true → xs ≡ ys
@@ -125,9 +128,9 @@ no-conflict pile s =
 
 -- a sound pile passes all lines up to CONFLICT, and says what its last two say
 soundLines : List ℕ → List Line
-soundLines pile = (torn pile ∷ long pile ∷ everyBlock pile) ++ (mixed pile ∷ conflict pile ∷ [])
+soundLines pile = (tornPile pile ∷ longPile pile ∷ everyBlock pile) ++ (mixed pile ∷ conflict pile ∷ [])
 
-sound-passes : (pile : List ℕ) → Sound pile → Passed (torn pile ∷ long pile ∷ everyBlock pile) × Passed (mixed pile ∷ conflict pile ∷ [])
+sound-passes : (pile : List ℕ) → Sound pile → Passed (tornPile pile ∷ longPile pile ∷ everyBlock pile) × Passed (mixed pile ∷ conflict pile ∷ [])
 sound-passes pile s = (
   passed-one (found-none (s .whole)) (passed-one (le-ltb 560 (blocks pile) (s .few)) (true-blocks pile (s .blocks-true))),
   passed-one (found-none (no-mixed pile s)) (passed-one (found-none (no-conflict pile s)) passed-none),
@@ -138,8 +141,8 @@ unfolding joining joinLines enough
 sound-rest pile room s =
     let r = sound-passes pile s in
     let rest = short pile ∷ narrow pile room ∷ [] in
-    append-lines (torn pile ∷ long pile ∷ everyBlock pile) (wholeLines pile room) (done (width pile))
-    ∙ passed-done (torn pile ∷ long pile ∷ everyBlock pile) (firstFail (wholeLines pile room) (done (width pile))) (r .0)
+    append-lines (tornPile pile ∷ longPile pile ∷ everyBlock pile) (wholeLines pile room) (done (width pile))
+    ∙ passed-done (tornPile pile ∷ longPile pile ∷ everyBlock pile) (firstFail (wholeLines pile room) (done (width pile))) (r .0)
     ∙ append-lines (mixed pile ∷ conflict pile ∷ []) rest (done (width pile))
     ∙ passed-done (mixed pile ∷ conflict pile ∷ []) (firstFail rest (done (width pile))) (r .1)
 

@@ -9,7 +9,8 @@ use lib.ListN.{length, getD, set, length-set, replicate, length-replicate, getD-
 use lib.Seq.{getD-set-same, getD-set-other}
 use borrow.Author.Tests.{eq-eqb, ne-eqb}
 use Rattle.answer.specs.Places.{firstFrom, firstIn}
-use Rattle.joining.specs.Pile.{blocks, pieceAt, hasPiece, placeOf}
+use Rattle.pile.specs.Blocks.{blocks}
+use Rattle.joining.specs.Pile.{pieceAt, hasPiece, placeOf}
 use Rattle.lists.specs.Run.{run}
 use Rattle.lists.proofs.RunLaws.{run-length, run-at, run-is}
 use Rattle.answer.proofs.FirstLaws.{miss-end, kept-end, hit-end, below-end}

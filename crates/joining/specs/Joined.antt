@@ -1,32 +1,17 @@
 -- What joining answers: "Joining checks 13, 14; then blocks in pile order, each for 15, 16, 17; then 18, 19, 20, 12 over the whole pile."
 -- Assumes nothing.
-use Prim.Native.Nat.{ℕ, zero, suc, _+_, _%_}
+use Prim.Native.Nat.{ℕ}
 use mathlib.Core.Bool.{Bool, not, _&&_, _||_}
 use mathlib.Core.List.{List, [], _∷_, _++_}
 use lib.ListN.{length}
 use lib.Dec.{eqb, ltb}
-use Rattle.answer.specs.declared.Kind.the-variants.{Torn, Long, Mixed, Conflict, Short, Room}
+use Rattle.answer.specs.declared.Kind.the-variants.{Mixed, Conflict, Short, Room}
 use Rattle.answer.specs.Outcome.{Outcome, done}
 use Rattle.answer.specs.Checks.{Line, line, firstFail}
 use Rattle.answer.specs.Places.{firstIn, found}
-use Rattle.block.specs.Open.{blockLines}
-use Rattle.joining.specs.Pile.{blocks, restFrom, firstBlock, sameDeal, ownBlock, pieceCount, width, pieceAt, differIn, present}
-
--- 13 TORN: "pile not a multiple of 512 bytes"
-abbrev pub torn : List ℕ → Line
-torn pile = line Torn (found (length pile % 512)) 0 0
-
--- 14 LONG: "over 560 blocks"
-abbrev pub long : List ℕ → Line
-long pile = line Long (ltb 560 (blocks pile)) 0 0
-
--- 15, 16, 17 of n blocks from block a on, in pile order
-unfoldable pub linesFrom : List ℕ → ℕ → ℕ → List Line
-linesFrom pile a zero = []
-linesFrom pile a (suc n) = blockLines (restFrom pile a) a ++ linesFrom pile (a + 1) n
-
-unfoldable pub everyBlock : List ℕ → List Line
-everyBlock pile = linesFrom pile 1 (blocks pile)
+use Rattle.pile.specs.Blocks.{blocks, firstBlock}
+use Rattle.pile.specs.Lines.{tornPile, longPile, everyBlock}
+use Rattle.joining.specs.Pile.{sameDeal, ownBlock, pieceCount, width, pieceAt, differIn, present}
 
 -- 18 MIXED: "words 2, 4, 5, 6 differ from block 1's", "a: first such block"
 unfoldable pub mixedAt : List ℕ → ℕ
@@ -65,7 +50,7 @@ wholeLines pile room = mixed pile ∷ conflict pile ∷ short pile ∷ narrow pi
 
 -- joining a pile into a lent output of so many words: the lines in order, else w
 unfoldable pub joinLines : List ℕ → ℕ → List Line
-joinLines pile room = torn pile ∷ long pile ∷ everyBlock pile ++ wholeLines pile room
+joinLines pile room = tornPile pile ∷ longPile pile ∷ everyBlock pile ++ wholeLines pile room
 
 unfoldable pub joining : List ℕ → ℕ → Outcome ℕ
 joining pile room = firstFail (joinLines pile room) (done (width pile))

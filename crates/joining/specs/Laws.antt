@@ -9,14 +9,10 @@ use Rattle.answer.specs.Outcome.{done, refused}
 use Rattle.answer.specs.Places.{found}
 use Rattle.field.specs.Poly.{p, value, Below, One}
 use Rattle.block.specs.Layout.{dealOf}
-use Rattle.joining.specs.Pile.{blocks, restFrom, word, firstBlock, pieceCount, width, pieceAt, placeOf, valueOf, differIn, present}
+use Rattle.pile.specs.Blocks.{blocks, restFrom, word, firstBlock, TrueBlocks, In}
+use Rattle.joining.specs.Pile.{pieceCount, width, pieceAt, placeOf, valueOf, differIn, present}
 use Rattle.joining.specs.Joined.{contradictedBy, conflictAt, joining}
 use Rattle.joining.specs.Secret.{secret, joinedInto}
-use Rattle.joining.specs.True.{TrueBlocks}
-
--- a is a block of the pile
-abbrev pub In : List ℕ → ℕ → Type 0
-In pile a = (1 ≤ a) × (a ≤ blocks pile)
 
 -- a pile of whole, true blocks, at most 560, that are of one deal and say the same of each piece
 pub record Sound (pile : List ℕ) : Type 0 where

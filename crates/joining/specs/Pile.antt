@@ -1,29 +1,12 @@
--- A pile of card blocks: its blocks and their words, the deal it is of, and where its pieces lie. Blocks and words count from 1.
+-- What joining reads off a pile: the deal it is of, and where its pieces lie. Blocks and words count from 1.
 -- Assumes nothing.
-use Prim.Native.Nat.{ℕ, _+_, _-_, _*_, _/_}
+use Prim.Native.Nat.{ℕ, _+_}
 use mathlib.Core.Bool.{Bool, true, false, not, _&&_}
 use mathlib.Core.List.{List, [], _∷_}
-use lib.ListN.{length, drop}
 use lib.Dec.{eqb}
 use Rattle.answer.specs.Places.{firstIn, found, those}
-use Rattle.block.specs.Words.{wordAt}
 use Rattle.block.specs.Layout.{dealOf, pieceOf, widthOf}
-
--- how many whole blocks a pile has
-unfoldable pub blocks : List ℕ → ℕ
-blocks pile = length pile / 512
-
--- "the rest of the pile" from block a on; its first 512 bytes are block a
-unfoldable pub restFrom : List ℕ → ℕ → List ℕ
-restFrom pile a = drop (512 * (a - 1)) pile
-
--- word i of block a
-abbrev pub word : List ℕ → ℕ → ℕ → ℕ
-word pile a i = wordAt (restFrom pile a) i
-
--- the first block with the test, or 0 where no block has it
-abbrev pub firstBlock : List ℕ → (ℕ → Bool) → ℕ
-firstBlock pile test = firstIn test 1 (blocks pile + 1)
+use Rattle.pile.specs.Blocks.{restFrom, word, firstBlock}
 
 -- ---- the deal
 

@@ -3,12 +3,8 @@ use Prim.Native.Nat.{ℕ, _≤_}
 use mathlib.Core.Bool.{Bool}
 use mathlib.Core.List.{List}
 use Rattle.answer.specs.Places.{found, at}
-use Rattle.block.specs.Open.{TrueBlock}
-use Rattle.joining.specs.Pile.{blocks, restFrom, pieceCount, placeOf}
-
--- every block is a true block: it passes 15, 16 and 17
-pub record TrueBlocks (pile : List ℕ) : Type 0 where
-  pub block : (a : ℕ) → 1 ≤ a → a ≤ blocks pile → TrueBlock (restFrom pile a)
+use Rattle.pile.specs.Blocks.{blocks, TrueBlocks}
+use Rattle.joining.specs.Pile.{pieceCount, placeOf}
 
 -- a pile of true blocks, one at least, in which every piece of 1 to k lies in some block
 pub record Full (pile : List ℕ) : Type 0 where

@@ -12,50 +12,28 @@ ghost use Rattle.answer.specs.Lent.{over};
 ghost use Rattle.lists.specs.Run.{run};
 ghost use Rattle.field.specs.Joined.{joined};
 ghost use Rattle.field.specs.Lagrange.{weightsOf};
-ghost use Rattle.joining.specs.Pile.{blocks, word, sameDeal, pieceCount, width, placeOf, differIn};
-ghost use Rattle.joining.specs.Joined.{everyBlock, mixedAt, conflict, enough, joining};
+ghost use Rattle.pile.specs.Blocks.{blocks, word, TrueBlocks};
+ghost use Rattle.joining.specs.Pile.{sameDeal, pieceCount, width, placeOf, differIn};
+ghost use Rattle.pile.specs.Lines.{everyBlock};
+ghost use Rattle.joining.specs.Joined.{mixedAt, conflict, enough, joining};
 ghost use Rattle.joining.specs.Secret.{column, secret, joinedInto};
-ghost use Rattle.joining.specs.True.{TrueBlocks, Full, marked};
-
-// Word i of block a.
-fn word(pile: &[u8], a: usize, i: usize) -> u16
-    requires { ⌜ (1 ≤ a) × (a ≤ blocks (now pile)) × (1 ≤ i) × (i ≤ 256) ⌝ }
-    ensures { λ r. ⌜ r ≡ word (now (pile .entry)) a i ⌝ }
-{
-    block::word(&pile[512 * (a - 1)..], i)
-}
-
-// The blocks in pile order, each for UNREAD, CHECK and HEADER: each step is given the rest of the pile.
-fn check_blocks(pile: &[u8]) -> Answer
-    ensures { λ r. ⌜ outcome r ≡ firstFail (everyBlock (now (pile .entry))) (done 0) ⌝ }
-{
-    let mut rest = &pile[..];
-    let mut a: usize = 1;
-    while 512 <= rest.len() {
-        if let Answer::Refused(r) = block::check_block(rest, a) {
-            return Answer::Refused(r);
-        }
-        rest = &rest[512..];
-        a += 1;
-    }
-    Answer::Done(0)
-}
+ghost use Rattle.joining.specs.True.{Full, marked};
 
 // Blocks a and b are of one deal.
 fn same_deal(pile: &[u8], a: usize, b: usize) -> bool
     requires { ⌜ (1 ≤ a) × (a ≤ blocks (now pile)) × (1 ≤ b) × (b ≤ blocks (now pile)) ⌝ }
     ensures { λ r. ⌜ r ≡ sameDeal (now (pile .entry)) a b ⌝ }
 {
-    if word(pile, a, 2) != word(pile, b, 2) {
+    if pile::word(pile, a, 2) != pile::word(pile, b, 2) {
         return false;
     }
-    if word(pile, a, 4) != word(pile, b, 4) {
+    if pile::word(pile, a, 4) != pile::word(pile, b, 4) {
         return false;
     }
-    if word(pile, a, 5) != word(pile, b, 5) {
+    if pile::word(pile, a, 5) != pile::word(pile, b, 5) {
         return false;
     }
-    word(pile, a, 6) == word(pile, b, 6)
+    pile::word(pile, a, 6) == pile::word(pile, b, 6)
 }
 
 // The first block of another deal than the pile's own, or 0.
@@ -84,7 +62,7 @@ fn places(pile: &[u8]) -> [usize; 70]
     let mut table = [0usize; 70];
     let mut a: usize = 1;
     while a < end {
-        let at = word(pile, a, 7) as usize - 1;
+        let at = pile::word(pile, a, 7) as usize - 1;
         if table[at] == 0 {
             table[at] = a;
         }
@@ -99,10 +77,10 @@ fn differ_in(pile: &[u8], a: usize, b: usize) -> usize
     requires { ⌜ (1 ≤ a) × (a ≤ blocks (now pile)) × (1 ≤ b) × (b ≤ blocks (now pile)) ⌝ }
     ensures { λ r. ⌜ r ≡ differIn (now (pile .entry)) a b ⌝ }
 {
-    let end = word(pile, 1, 6) as usize + 1;
+    let end = pile::word(pile, 1, 6) as usize + 1;
     let mut i: usize = 1;
     while i < end {
-        if word(pile, a, 7 + i) != word(pile, b, 7 + i) {
+        if pile::word(pile, a, 7 + i) != pile::word(pile, b, 7 + i) {
             return i;
         }
         i += 1;
@@ -119,7 +97,7 @@ fn check_conflict(pile: &[u8], table: &[usize; 70]) -> Answer
     let end = pile.len() / 512 + 1;
     let mut a: usize = 1;
     while a < end {
-        let at = word(pile, a, 7) as usize - 1;
+        let at = pile::word(pile, a, 7) as usize - 1;
         let b = table[at];
         if differ_in(pile, a, b) != 0 {
             return answer::refuse(Kind::Conflict, a, b);
@@ -155,12 +133,12 @@ fn enough(pile: &[u8], table: &[usize; 70], room: usize) -> Answer
     if pile.len() == 0 {
         return answer::refuse(Kind::Short, 0, 0);
     }
-    let k = word(pile, 1, 5) as usize;
+    let k = pile::word(pile, 1, 5) as usize;
     let here = count_present(table, k);
     if here < k {
         return answer::refuse(Kind::Short, here, k);
     }
-    let w = word(pile, 1, 6) as usize;
+    let w = pile::word(pile, 1, 6) as usize;
     if room < w {
         return answer::refuse(Kind::Room, w, 0);
     }
@@ -177,7 +155,7 @@ fn check(pile: &[u8], room: usize) -> Answer
     if 560 < pile.len() / 512 {
         return answer::refuse(Kind::Long, 0, 0);
     }
-    if let Answer::Refused(r) = check_blocks(pile) {
+    if let Answer::Refused(r) = pile::check_blocks(pile) {
         return Answer::Refused(r);
     }
     let other = mixed_at(pile);
@@ -199,10 +177,10 @@ fn write_column(pile: &[u8], table: &[usize; 70], i: usize, values: &mut [u16])
     requires { ⌜ pieceCount (now pile) ≤ length (now values) ⌝ }
     ensures { λ _. ⌜ now (values .exit) ≡ over (column (now (pile .entry)) i) (now (values .entry)) ⌝ }
 {
-    let k = word(pile, 1, 5) as usize;
+    let k = pile::word(pile, 1, 5) as usize;
     let mut j: usize = 0;
     while j < k {
-        values[j] = word(pile, table[j], 7 + i);
+        values[j] = pile::word(pile, table[j], 7 + i);
         j += 1;
     }
 }
@@ -223,7 +201,7 @@ fn secret_word(
     ensures says { λ r. ⌜ r ≡ joined (column (now (pile .entry)) i) ⌝ }
     ensures leaves { λ r. ⌜ now (values .exit) ≡ over (column (now (pile .entry)) i) (now (values .entry)) ⌝ }
 {
-    let k = word(pile, 1, 5) as usize;
+    let k = pile::word(pile, 1, 5) as usize;
     write_column(pile, table, i, values);
     field::join_word(&values[..k], weights)
 }
@@ -235,9 +213,9 @@ fn write_secret(pile: &[u8], out: &mut [u16])
     ensures { λ _. ⌜ now (out .exit) ≡ over (secret (now (pile .entry))) (now (out .entry)) ⌝ }
 {
     let table = places(pile);
-    let weights = field::weights(word(pile, 1, 5) as usize);
+    let weights = field::weights(pile::word(pile, 1, 5) as usize);
     let mut values = [0u16; 70];
-    let w = word(pile, 1, 6) as usize;
+    let w = pile::word(pile, 1, 6) as usize;
     let mut i: usize = 0;
     while i < w {
         out[i] = secret_word(pile, &table, &weights, i + 1, &mut values);

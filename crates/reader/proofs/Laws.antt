@@ -15,9 +15,11 @@ use Rattle.block.proofs.OneLaws.{words-one}
 use Rattle.block.specs.Laws as opens-law
 use Rattle.block.proofs.OpenLaws.{opening-block, true-opens, which-refusals as opens-which}
 use Rattle.block.proofs.ValueLaws as value
-use Rattle.joining.specs.Pile.{blocks, restFrom, width}
-use Rattle.joining.specs.Joined.{everyBlock, joinLines, joining}
-use Rattle.joining.proofs.PileLaws.{rest-long}
+use Rattle.pile.specs.Blocks.{blocks, restFrom}
+use Rattle.joining.specs.Pile.{width}
+use Rattle.pile.specs.Lines.{everyBlock}
+use Rattle.joining.specs.Joined.{joinLines, joining}
+use Rattle.pile.proofs.PileLaws.{rest-long}
 use Rattle.joining.proofs.Laws.{then-joins}
 use Rattle.reader.specs.declared.Seen.the-variants.{Head, Refused, Ended}
 use Rattle.reader.specs.Seeing.{told, counted, openingAt, seeing, after, placeAfter, reading}

@@ -13,8 +13,8 @@ use Rattle.answer.specs.Checks.{firstFail}
 use Rattle.answer.proofs.CheckLaws.{given, not-given, append-lines, done-passed, passed-done, same-refusal}
 use Rattle.block.specs.Layout.{headerOf}
 use Rattle.block.specs.Open.{blockLines}
-use Rattle.joining.specs.Pile.{blocks, restFrom}
-use Rattle.joining.specs.Joined.{torn, linesFrom, everyBlock}
+use Rattle.pile.specs.Blocks.{blocks, restFrom}
+use Rattle.pile.specs.Lines.{tornPile, linesFrom, everyBlock}
 use Rattle.reader.specs.Seeing.{told, ended, openingAt, seeing, after, reading}
 use Rattle.reader.proofs.SeeingLaws.{seeing-block, seeing-torn, seeing-ended, after-block}
 
@@ -40,16 +40,16 @@ head-at pile n {ws} e = go (decLe (n + 1) (blocks pile)) (decLe (length pile) (5
 -- ---- the lines still to speak after n blocks
 pub record Ahead (pile : List ℕ) (n : ℕ) : Type 0 where
   pub within : n ≤ blocks pile
-  pub lines : reading pile ≡ firstFail {A = ℕ} (linesFrom pile (n + 1) (blocks pile - n)) (firstFail (torn pile ∷ []) (done (blocks pile)))
+  pub lines : reading pile ≡ firstFail {A = ℕ} (linesFrom pile (n + 1) (blocks pile - n)) (firstFail (tornPile pile ∷ []) (done (blocks pile)))
 
 pub ahead-start : (pile : List ℕ) → Ahead pile 0
 unfolding reading everyBlock
 ahead-start pile =
     let e : blocks pile ≡ blocks pile - 0 = omega arith in
-    let end = firstFail {A = ℕ} (torn pile ∷ []) (done (blocks pile)) in
+    let end = firstFail {A = ℕ} (tornPile pile ∷ []) (done (blocks pile)) in
     record {
       within = omega arith;
-      lines = append-lines (linesFrom pile 1 (blocks pile)) (torn pile ∷ []) (done (blocks pile)) ∙ ap (λ (m : ℕ). firstFail (linesFrom pile 1 m) end) e;
+      lines = append-lines (linesFrom pile 1 (blocks pile)) (tornPile pile ∷ []) (done (blocks pile)) ∙ ap (λ (m : ℕ). firstFail (linesFrom pile 1 m) end) e;
     }
 
 -- with a block left, its lines come first
@@ -78,23 +78,23 @@ pub ahead-less : (pile : List ℕ) (n : ℕ) {ws : List ℕ} → told (done ws) 
 ahead-less pile n e = let h = head-at pile n e .0 in rw (after-block pile n h) (omega (arith, h))
 
 -- past the last block: the line of TORN is left
-last : (pile : List ℕ) (n : ℕ) → Ahead pile n → blocks pile ≤ n → reading pile ≡ firstFail {A = ℕ} (torn pile ∷ []) (done (blocks pile))
+last : (pile : List ℕ) (n : ℕ) → Ahead pile n → blocks pile ≤ n → reading pile ≡ firstFail {A = ℕ} (tornPile pile ∷ []) (done (blocks pile))
 unfolding linesFrom firstFail
 last pile n t h =
     let z : blocks pile - n ≡ 0 = omega arith in
-    t .lines ∙ ap (λ (m : ℕ). firstFail {A = ℕ} (linesFrom pile (n + 1) m) (firstFail (torn pile ∷ []) (done (blocks pile)))) z
+    t .lines ∙ ap (λ (m : ℕ). firstFail {A = ℕ} (linesFrom pile (n + 1) m) (firstFail (tornPile pile ∷ []) (done (blocks pile)))) z
 
 torn-last : (pile : List ℕ) (n : ℕ) → Ahead pile n → blocks pile ≤ n → 512 * n < length pile → reading pile ≡ refused 13 0 0
 unfolding blocks
 torn-last pile n t h k =
-    last pile n t h ∙ given (torn pile) [] (done (blocks pile)) (ap not (ne-eqb (length pile % 512) 0 (λ z. omega (arith, t .within))))
+    last pile n t h ∙ given (tornPile pile) [] (done (blocks pile)) (ap not (ne-eqb (length pile % 512) 0 (λ z. omega (arith, t .within))))
 
 even-last : (pile : List ℕ) (n : ℕ) → Ahead pile n → length pile ≤ 512 * n → reading pile ≡ done n
 unfolding blocks firstFail
 even-last pile n t k =
     let z : length pile % 512 ≡ 0 = omega (arith, t .within) in
     let e : blocks pile ≡ n = omega (arith, t .within) in
-    last pile n t (omega (arith, e)) ∙ not-given (torn pile) [] (done (blocks pile)) (ap not (eq-eqb (length pile % 512) 0 z)) ∙ ap done e
+    last pile n t (omega (arith, e)) ∙ not-given (tornPile pile) [] (done (blocks pile)) (ap not (eq-eqb (length pile % 512) 0 z)) ∙ ap done e
 
 -- a refusal at a place is that of the pile
 pub refused-at : (pile : List ℕ) (n m a b : ℕ) → Ahead pile n → told (refused m a b) ≡ seeing pile n → refused m a b ≡ reading pile

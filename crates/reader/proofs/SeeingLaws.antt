@@ -13,8 +13,8 @@ use Rattle.answer.specs.Checks.{pick, firstFail}
 use Rattle.block.specs.Layout.{headerOf, firstWrong}
 use Rattle.block.specs.Open.{blockLines, opening, unread, check, header, valueBytes, valueStart}
 use Rattle.block.proofs.OpenLaws.{opening-block}
-use Rattle.joining.specs.Pile.{blocks, restFrom}
-use Rattle.joining.proofs.PileLaws.{rest-long, part-rest}
+use Rattle.pile.specs.Blocks.{blocks, restFrom}
+use Rattle.pile.proofs.PileLaws.{rest-long, part-rest}
 use Rattle.reader.specs.Seeing.{told, ended, byLeft, openingAt, seeing, after, hasBlock, valuesOf, valuesFrom, counted}
 
 -- ---- what is left

@@ -8,7 +8,7 @@ use lib.ListN.{length}
 use Rattle.answer.specs.Outcome.{done, refused}
 use Rattle.block.specs.Layout.{headerOf}
 use Rattle.block.specs.Open.{opening, valueBytes, valueStart}
-use Rattle.joining.specs.Pile.{blocks, restFrom}
+use Rattle.pile.specs.Blocks.{blocks, restFrom}
 use Rattle.joining.specs.Joined.{joining}
 use Rattle.reader.specs.declared.Seen.{Seen}
 use Rattle.reader.specs.Seeing.{told, ended, sight, counted, seeing, after, valuesOf, valuesFrom, placeAfter, answerOf, reading}

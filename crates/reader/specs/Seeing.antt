@@ -11,8 +11,8 @@ use Rattle.answer.specs.Outcome.{Outcome, done, refused, number}
 use Rattle.answer.specs.Checks.{firstFail}
 use Rattle.block.specs.Layout.{headerOf}
 use Rattle.block.specs.Open.{blockLines, valueBytes, valueStart, wordsOf}
-use Rattle.joining.specs.Pile.{blocks, restFrom}
-use Rattle.joining.specs.Joined.{everyBlock, torn}
+use Rattle.pile.specs.Blocks.{blocks, restFrom}
+use Rattle.pile.specs.Lines.{everyBlock, tornPile}
 use Rattle.reader.specs.declared.Seen.{Seen}
 use Rattle.reader.specs.declared.Seen.the-variants.{Head, Refused, Ended}
 use Rattle.reader.specs.declared.Reader.{Reader}
@@ -83,4 +83,4 @@ answerOf pile c = seeing pile (placeAfter pile (c - 1))
 
 -- a pile read from the front to its end: "blocks in pile order, each for 15, 16, 17", then TORN, else how many blocks it has
 unfoldable pub reading : List ℕ → Outcome ℕ
-reading pile = firstFail (everyBlock pile ++ (torn pile ∷ [])) (done (blocks pile))
+reading pile = firstFail (everyBlock pile ++ (tornPile pile ∷ [])) (done (blocks pile))

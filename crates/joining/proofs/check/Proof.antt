@@ -4,10 +4,12 @@ use mathlib.Core.Path.{_≡_, sym, ap, _∙_}
 use mathlib.Core.List.{[], _∷_}
 use Rattle.answer.specs.Outcome.{outcome, done}
 use Rattle.answer.proofs.CheckLaws.{stops, goes-on, done-passed}
-use Rattle.joining.specs.Pile.{blocks, width}
-use Rattle.joining.specs.Joined.{joining, everyBlock, conflict, short, narrow, wholeLines, enough}
-use Rattle.joining.specs.True.{TrueBlocks}
-use Rattle.joining.proofs.ChainLaws.{fromLong, fromBlocks, fromMixed, fromConflict, is-torn, is-whole, is-long, not-long, is-mixed, not-mixed, blocks-true}
+use Rattle.pile.specs.Blocks.{blocks, TrueBlocks}
+use Rattle.joining.specs.Pile.{width}
+use Rattle.pile.specs.Lines.{everyBlock}
+use Rattle.joining.specs.Joined.{joining, conflict, short, narrow, wholeLines, enough}
+use Rattle.pile.proofs.LineLaws.{blocks-true}
+use Rattle.joining.proofs.ChainLaws.{fromLong, fromBlocks, fromMixed, fromConflict, is-torn, is-whole, is-long, not-long, is-mixed, not-mixed}
 use borrow.Author.Needs.{needs}
 use Rattle.joining.proofs.check.Statement.{statement}
 use Rattle.joining.proofs.check.Tie as tie

@@ -6,7 +6,8 @@ use mathlib.Core.Path.{_≡_, sym, ap, _∙_}
 use Prim.Native.Nat.{_-_, _≤_}
 use lib.ListN.{getD}
 use Rattle.answer.specs.Outcome.{refused}
-use Rattle.joining.specs.Pile.{blocks, pieceAt, placeOf, differIn}
+use Rattle.pile.specs.Blocks.{blocks}
+use Rattle.joining.specs.Pile.{pieceAt, placeOf, differIn}
 use Rattle.joining.proofs.PileLaws.{piece-in}
 use Rattle.joining.proofs.TableLaws.{place-at}
 use Rattle.joining.proofs.ConflictLaws.{Seek, seek-start, seek-on, seek-stops, seek-end, place-is}

@@ -5,7 +5,8 @@ use mathlib.Core.Path.{_≡_, ap, ap₂, _∙_}
 use Prim.Native.Nat.{_≤_}
 use lib.ListN.{length}
 use Rattle.answer.specs.Outcome.{done, refused}
-use Rattle.joining.specs.Pile.{blocks, pieceCount, present}
+use Rattle.pile.specs.Blocks.{blocks}
+use Rattle.joining.specs.Pile.{pieceCount, present}
 use Rattle.joining.proofs.PileLaws.{pieces-in}
 use Rattle.joining.proofs.EnoughLaws.{present-is, enough-none, enough-short, enough-narrow, enough-done}
 use borrow.Author.Needs.{needs}

@@ -6,7 +6,8 @@ use Prim.Native.Nat.{_+_, _-_, _≤_}
 use native.Mathlib.Omega.{arith}
 use Rattle.answer.specs.Places.{firstIn}
 use Rattle.answer.proofs.FirstLaws.{first-hit, first-miss, first-none}
-use Rattle.joining.specs.Pile.{blocks, sameDeal}
+use Rattle.pile.specs.Blocks.{blocks}
+use Rattle.joining.specs.Pile.{sameDeal}
 use Rattle.joining.specs.Joined.{mixedAt}
 use Rattle.joining.proofs.mixed_at.Statement.{statement}
 use Rattle.joining.proofs.mixed_at.Tie as tie

@@ -3,7 +3,7 @@ use mathlib.Core.Path.{_≡_, ap, _∙_}
 use mathlib.Core.Logic.{⊎-elim}
 use Prim.Native.Nat.{_+_, _-_, _≤_}
 use native.Mathlib.Omega.{arith}
-use Rattle.joining.specs.Pile.{blocks}
+use Rattle.pile.specs.Blocks.{blocks}
 use Rattle.joining.proofs.PileLaws.{piece-in}
 use Rattle.joining.proofs.TableLaws.{tableTo, table-start, table-end, turn-kept, turn-new}
 use borrow.Author.Needs.{needs}

@@ -7,7 +7,8 @@ use Prim.Native.Nat.{ℕ, _+_, _-_, _≤_}
 use lib.ListN.{length, getD, length-set}
 use Rattle.answer.specs.Lent.{over}
 use Rattle.lists.specs.Run.{run}
-use Rattle.joining.specs.Pile.{blocks, pieceCount, placeOf, valueOf}
+use Rattle.pile.specs.Blocks.{blocks}
+use Rattle.joining.specs.Pile.{pieceCount, placeOf, valueOf}
 use Rattle.joining.specs.Secret.{column}
 use Rattle.joining.proofs.PileLaws.{pieces-in, width-in}
 use Rattle.joining.proofs.TableLaws.{place-next, place-most}

@@ -1,6 +1,6 @@
 -- `reader::after` meets its contract: by whether a whole block is left. Assumes nothing.
 use mathlib.Core.Path.{sym}
-use Rattle.joining.specs.Pile.{blocks}
+use Rattle.pile.specs.Blocks.{blocks}
 use Rattle.reader.proofs.SeeingLaws.{after-block, after-stays}
 use borrow.Author.Needs.{needs}
 use Rattle.reader.proofs.after.Statement.{statement}

@@ -2,7 +2,7 @@
 use denote.Ref.{now}
 use mathlib.Core.Path.{sym, ap, _∙_}
 use Prim.Native.Nat.{_-_}
-use Rattle.joining.specs.Pile.{blocks}
+use Rattle.pile.specs.Blocks.{blocks}
 use Rattle.reader.specs.Seeing.{sight}
 use Rattle.reader.proofs.ReadingLaws.{Ahead, ahead-start, ahead-on, ahead-less, refused-at, ended-at}
 use borrow.Author.Needs.{needs}

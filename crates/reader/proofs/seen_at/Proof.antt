@@ -1,7 +1,7 @@
 -- `reader::seen_at` meets its contract: by what is left after so many blocks. Assumes nothing.
 use mathlib.Core.Path.{sym, _∙_}
 use native.Mathlib.Omega.{arith}
-use Rattle.joining.specs.Pile.{blocks}
+use Rattle.pile.specs.Blocks.{blocks}
 use Rattle.reader.proofs.SeeingLaws.{seen-block, seeing-torn, seeing-ended}
 use borrow.Author.Needs.{needs}
 use Rattle.reader.proofs.seen_at.Statement.{statement}

@@ -4,8 +4,8 @@ use denote.Ref.{now}
 use mathlib.Core.Path.{_≡_, sym, ap, _∙_}
 use Prim.Native.Nat.{ℕ, _+_, _-_, _*_}
 use native.Mathlib.Omega.{arith}
-use Rattle.joining.specs.Pile.{blocks, restFrom}
-use Rattle.joining.proofs.PileLaws.{part-rest}
+use Rattle.pile.specs.Blocks.{blocks, restFrom}
+use Rattle.pile.proofs.PileLaws.{part-rest}
 use Rattle.block.specs.Open.{valueBytes, valueStart}
 use Rattle.reader.proofs.SeeingLaws.{values-in, no-block, past-blocks, values-none}
 use borrow.Author.Needs.{needs}

@@ -13,9 +13,9 @@ use Rattle.answer.specs.Outcome.{outcome, done}
 use Rattle.answer.specs.Checks.{firstFail}
 use Rattle.answer.proofs.CheckLaws.{stops, goes-on}
 use Rattle.block.specs.Open.{blockLines}
-use Rattle.joining.specs.Pile.{blocks, restFrom}
-use Rattle.joining.specs.Joined.{linesFrom, everyBlock}
-use Rattle.joining.proofs.PileLaws.{rest-next, part-rest}
+use Rattle.pile.specs.Blocks.{blocks, restFrom}
+use Rattle.pile.specs.Lines.{linesFrom, everyBlock}
+use Rattle.pile.proofs.PileLaws.{rest-next, part-rest}
 
 pub record Walk (pile rest : List ℕ) (a : ℕ) : Type 0 where
   pub from : 1 ≤ a

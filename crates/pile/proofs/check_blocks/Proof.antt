@@ -1,11 +1,11 @@
--- `joining::check_blocks` meets its contract. The invariant: the rest is the pile from block a on, and its blocks' lines are still to speak.
+-- `pile::check_blocks` meets its contract. The invariant: the rest is the pile from block a on, and its blocks' lines are still to speak.
 -- Assumes nothing.
 use native.Mathlib.Omega.{arith}
 use borrow.Author.Needs.{needs}
 use lib.ListN.{length}
-use Rattle.joining.proofs.WalkLaws.{Walk, walk-start, walk-stops, walk-on, walk-end, next-less}
-use Rattle.joining.proofs.check_blocks.Statement.{statement}
-use Rattle.joining.proofs.check_blocks.Tie as tie
+use Rattle.pile.proofs.WalkLaws.{Walk, walk-start, walk-stops, walk-on, walk-end, next-less}
+use Rattle.pile.proofs.check_blocks.Statement.{statement}
+use Rattle.pile.proofs.check_blocks.Tie as tie
 
 abbrev Inv-loop : tie.InvT-loop
 Inv-loop pile rest₀ a₀ rest a = Walk pile rest a

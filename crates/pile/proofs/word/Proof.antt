@@ -1,15 +1,15 @@
--- `joining::word` meets its contract: the part is the rest of the pile from block a on. Assumes nothing.
+-- `pile::word` meets its contract: the part is the rest of the pile from block a on. Assumes nothing.
 use mathlib.Core.Path.{ap, _∙_}
 use Prim.Native.Nat.{_-_, _*_}
 use native.Mathlib.Omega.{arith}
 use denote.Ref.{now}
 use lib.ListN.{length-drop}
 use Rattle.block.specs.Words.{wordAt}
-use Rattle.joining.proofs.PileLaws.{part-rest}
-use Rattle.joining.specs.Pile.{blocks, restFrom}
+use Rattle.pile.proofs.PileLaws.{part-rest}
+use Rattle.pile.specs.Blocks.{blocks, restFrom}
 use borrow.Author.Needs.{needs}
-use Rattle.joining.proofs.word.Statement.{statement}
-use Rattle.joining.proofs.word.Tie as tie
+use Rattle.pile.proofs.word.Statement.{statement}
+use Rattle.pile.proofs.word.Tie as tie
 
 sub-word : tie.Need-sub-word
 sub-word c = search needs

@@ -1,0 +1,4 @@
+pub mod PileLaws
+pub mod WalkLaws
+pub mod LineLaws
+pub mod Laws

@@ -1,0 +1,33 @@
+// A pile of card blocks: its words, and its blocks in order, each given as the rest of the pile. The definitions that the contracts cite
+// are in specs/, under the functions' names.
+use answer::Answer;
+ghost use mathlib.Core.Path.{_≡_};
+ghost use Prim.Native.Nat.{_≤_};
+ghost use Rattle.answer.specs.Outcome.{outcome, done};
+ghost use Rattle.answer.specs.Checks.{firstFail};
+ghost use Rattle.pile.specs.Blocks.{blocks, word};
+ghost use Rattle.pile.specs.Lines.{everyBlock};
+
+// Word i of block a.
+pub fn word(pile: &[u8], a: usize, i: usize) -> u16
+    requires { ⌜ (1 ≤ a) × (a ≤ blocks (now pile)) × (1 ≤ i) × (i ≤ 256) ⌝ }
+    ensures { λ r. ⌜ r ≡ word (now (pile .entry)) a i ⌝ }
+{
+    block::word(&pile[512 * (a - 1)..], i)
+}
+
+// The blocks in pile order, each for UNREAD, CHECK and HEADER: each step is given the rest of the pile.
+pub fn check_blocks(pile: &[u8]) -> Answer
+    ensures { λ r. ⌜ outcome r ≡ firstFail (everyBlock (now (pile .entry))) (done 0) ⌝ }
+{
+    let mut rest = &pile[..];
+    let mut a: usize = 1;
+    while 512 <= rest.len() {
+        if let Answer::Refused(r) = block::check_block(rest, a) {
+            return Answer::Refused(r);
+        }
+        rest = &rest[512..];
+        a += 1;
+    }
+    Answer::Done(0)
+}
