@@ -8,21 +8,17 @@ use native.Mathlib.Omega.{arith}
 use lib.ListN.{length}
 use Rattle.answer.specs.Outcome.{Outcome, done, refused, number}
 use Rattle.answer.proofs.OneLaws.{refusal-one}
-use Rattle.answer.proofs.CheckLaws.{never-both, passed, passed-none, passed-one, passed-append, passed-both, passed-done, done-passed}
+use Rattle.answer.proofs.CheckLaws.{never-both}
 use Rattle.block.specs.declared.Opened.the-variants as opens
 use Rattle.block.specs.Open.{opening, wordsOf, valueBytes, valueStart}
 use Rattle.block.proofs.OneLaws.{words-one}
 use Rattle.block.specs.Laws as opens-law
-use Rattle.block.proofs.OpenLaws.{opening-block, true-opens, which-refusals as opens-which}
+use Rattle.block.proofs.OpenLaws.{opening-block, which-refusals as opens-which}
 use Rattle.block.proofs.ValueLaws as value
 use Rattle.pile.specs.Blocks.{blocks, restFrom}
-use Rattle.joining.specs.Pile.{width}
-use Rattle.pile.specs.Lines.{everyBlock}
-use Rattle.joining.specs.Joined.{joinLines, joining}
 use Rattle.pile.proofs.PileLaws.{rest-long}
-use Rattle.joining.proofs.Laws.{then-joins}
 use Rattle.reader.specs.declared.Seen.the-variants.{Head, Refused, Ended}
-use Rattle.reader.specs.Seeing.{told, counted, openingAt, seeing, after, placeAfter, reading}
+use Rattle.reader.specs.Seeing.{told, counted, openingAt, seeing, after, placeAfter}
 use Rattle.reader.specs.Laws as law
 use Rattle.reader.proofs.SeeingLaws.{counted-lines, counted-opening, seeing-block, seeing-torn, seeing-ended, after-block, after-stays, values-in}
 use Rattle.reader.proofs.ReadingLaws.{not-ended}
@@ -140,20 +136,3 @@ which-refusals pile n m a b e = go (decLe (n + 1) (blocks pile)) (decLe (length 
         let j : 0 ≡ a = cc in
         let l : 0 ≡ b = cc in
         rw (← i, ← j, ← l) law.by-torn
-
--- ---- a pile that joins
-all-read : (pile : List ℕ) (room w : ℕ) → joining pile room ≡ done w → reading pile ≡ done (blocks pile)
-unfolding joining joinLines reading
-all-read pile room w e =
-    let t = passed (done-passed (joinLines pile room) (done (width pile)) w e .0) in
-    let l = passed (t .1) in
-    passed-done _ _ (passed-both (everyBlock pile) (passed-append (everyBlock pile) (l .1) .0) (passed-one (t .0) passed-none))
-
-pub joined-read : law.JoinedRead
-joined-read pile room w e =
-    let t = then-joins pile room w e .sound in (
-      λ a l h. from-front pile a l h
-          ∙ ap (λ (o : Outcome (List ℕ)). told (counted a o)) (true-opens (restFrom pile a) (t .blocks-true .block a l h)),
-      λ c h. past-blocks pile c h .1 (t .whole),
-      all-read pile room w e,
-    )

@@ -5,11 +5,9 @@ use mathlib.Core.Path.{_≡_}
 use mathlib.Core.Logic.{_≢_}
 use mathlib.Core.List.{List, []}
 use lib.ListN.{length}
-use Rattle.answer.specs.Outcome.{done, refused}
-use Rattle.block.specs.Layout.{headerOf}
+use Rattle.answer.specs.Outcome.{refused}
 use Rattle.block.specs.Open.{opening, valueBytes, valueStart}
 use Rattle.pile.specs.Blocks.{blocks, restFrom}
-use Rattle.joining.specs.Joined.{joining}
 use Rattle.reader.specs.declared.Seen.{Seen}
 use Rattle.reader.specs.Seeing.{told, ended, sight, counted, seeing, after, valuesOf, valuesFrom, placeAfter, answerOf, reading}
 
@@ -60,10 +58,3 @@ pub data Refusable (n : ℕ) : ℕ → ℕ → ℕ → Type 0 where
 -- It gives no other: TORN, or UNREAD, CHECK or HEADER of its next block.
 abbrev pub WhichRefusals : Type 0
 WhichRefusals = (pile : List ℕ) (n m a b : ℕ) → seeing pile n ≡ told (refused m a b) → Refusable n m a b
-
--- A pile that joining accepts is read to its end with no refusal: each answer is the block's words 1 to 7, and then the pile has ended.
-abbrev pub JoinedRead : Type 0
-JoinedRead = (pile : List ℕ) (room w : ℕ) → joining pile room ≡ done w
-    → ((a : ℕ) → 1 ≤ a → a ≤ blocks pile → answerOf pile a ≡ told (done (headerOf (restFrom pile a))))
-    × ((c : ℕ) → blocks pile < c → answerOf pile c ≡ ended)
-    × (reading pile ≡ done (blocks pile))
