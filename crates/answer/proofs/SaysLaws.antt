@@ -2,11 +2,14 @@
 -- Assumes nothing.
 use mathlib.Core.Path.{_≡_, refl, sym, _∙_}
 use mathlib.Core.Bool.{true, false}
-use mathlib.Core.List.{List, [], _∷_}
+use mathlib.Core.List.{List, [], _∷_, _++_}
 use Prim.Native.Nat.{ℕ}
-use Rattle.answer.specs.Outcome.{Outcome, done, refused, number}
+use Rattle.answer.specs.declared.Refusal.{Refusal}
+use Rattle.answer.specs.declared.Answer.{Answer}
+use Rattle.answer.specs.declared.Answer.the-variants.{Done, Refused}
+use Rattle.answer.specs.Outcome.{Outcome, done, refused, number, outcome}
 use Rattle.answer.specs.Checks.{Line, firstFail}
-use Rattle.answer.proofs.CheckLaws.{given, not-given}
+use Rattle.answer.proofs.CheckLaws.{given, not-given, stops, goes-on}
 
 -- what a check with these lines says
 abbrev pub said : List Line → Outcome ℕ
@@ -31,3 +34,11 @@ speaks {l = l} {ls = ls} h e = sym (h .says ∙ given l ls (done 0) e)
 pub silent : {o : Outcome ℕ} → Says o [] → done 0 ≡ o
 unfolding firstFail
 silent h = sym (h .says)
+
+-- a callee says what the first lines say: its refusal is what all of them say, and where it passes the others speak
+module _ (ls ms : List Line) {o : Outcome ℕ} {x : Answer} (h : Says o (ls ++ ms)) (e : outcome x ≡ said ls) where
+  pub part-speaks : {r : Refusal} → x ≡ Refused r → outcome (Refused r) ≡ o
+  part-speaks q = stops ls e ms (done 0) q ∙ sym (h .says)
+
+  pub part-passes : {v : ℕ} → x ≡ Done v → Says o ms
+  part-passes q = record { says = h .says ∙ goes-on ls e ms (done 0) q }

@@ -15,8 +15,7 @@ use Rattle.planning.specs.Planned.{planned}
 use Rattle.block.specs.Words.{bytesOf}
 use Rattle.dealing.specs.Deal.{Deal, dealFrom, card}
 use Rattle.dealing.specs.Dealt.{dealing, dealtInto}
-use Rattle.joining.specs.Joined.{joining}
-use Rattle.joining.specs.Secret.{joinedInto}
+use Rattle.joining.specs.Joined.{joining, joinedInto}
 use Rattle.text.specs.Listing.{listed}
 use Rattle.cases.specs.Plain.{set, textOf, Accepted}
 

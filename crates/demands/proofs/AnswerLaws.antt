@@ -17,9 +17,11 @@ use Rattle.dealing.specs.Deal.{Deal, pieceCount, held, values}
 use Rattle.dealing.proofs.HeldLaws.{held-in}
 use Rattle.dealing.proofs.MadeLaws.{InRange}
 use Rattle.pile.specs.Blocks.{blocks}
-use Rattle.joining.specs.Pile.{placeOf, valueOf}
+use Rattle.joining.specs.Pile as Pile
+use Rattle.joining.specs.Pile.{placeOf, valueAt}
 use Rattle.joining.specs.Joined.{joining}
-use Rattle.joining.specs.Secret.{column, secret}
+use Rattle.field.specs.Secret.{column, secretOf}
+use Rattle.joining.specs.Secret.{secret}
 use Rattle.joining.specs.Laws.{Joins}
 use Rattle.joining.proofs.SoundLaws.{place-held, place-has}
 use Rattle.joining.proofs.Laws.{lacks-then, no-blocks}
@@ -60,7 +62,7 @@ module _ (d : Deal) (f : InRange d) (g : ℕ) (group : Group d g) (pile : List �
 
     -- value i of piece j, as the pile has it
     value-there : (i j : ℕ) → 1 ≤ i → i ≤ length (d .secret) → 1 ≤ j → j ≤ pieceCount d
-        → valueOf pile (placeOf pile j) i ≡ getD (values d j) (i - 1) 0
+        → valueAt pile j i ≡ getD (values d j) (i - 1) 0
     value-there i j l u l′ u′ =
         let m = held-by j l′ u′ in
         let a = r .all (m .0) j (m .1) (m .2) in
@@ -68,19 +70,19 @@ module _ (d : Deal) (f : InRange d) (g : ℕ) (group : Group d g) (pile : List �
         value-is r (placeOf pile j) i (p .0) l u ∙ ap (λ (x : ℕ). getD (values d x) (i - 1) 0) (p .1)
 
     -- the values i of all pieces join to word i
-    word-joined : (i : ℕ) → 1 ≤ i → i ≤ length (d .secret) → getD (d .secret) (i - 1) 0 ≡ joined (column pile i)
+    word-joined : (i : ℕ) → 1 ≤ i → i ≤ length (d .secret) → getD (d .secret) (i - 1) 0 ≡ joined (column (valueAt pile) (Pile.pieceCount pile) i)
     unfolding column values
     word-joined i l u =
         sym (ap joined
         (rw (pieces-are r some-block)
-        (run-same (λ j. valueOf pile (placeOf pile j) i) (λ j. getD (values d j) (i - 1) 0) (pieceCount d) (λ j l′ u′. value-there i j l u l′ u′)))
+        (run-same (λ j. valueAt pile j i) (λ j. getD (values d j) (i - 1) 0) (pieceCount d) (λ j l′ u′. value-there i j l u l′ u′)))
         ∙ round-trip-words (pieceCount d) (d .secret) (d .random) (f .ready .least) (f .ready .secret-in) (f .ready .random-in) i l u)
 
     pub secret-is : secret pile ≡ d .secret
-    unfolding secret
+    unfolding secretOf
     secret-is =
         rw (width-is r some-block)
-        (sym (run-is (λ i. joined (column pile i)) (length (d .secret)) (d .secret) refl word-joined))
+        (sym (run-is (λ i. joined (column (valueAt pile) (Pile.pieceCount pile) i)) (length (d .secret)) (d .secret) refl word-joined))
 
   -- ---- no block: the group holds no piece
   none-held : blocks pile ≡ 0 → length (gathered d g) ≡ 0

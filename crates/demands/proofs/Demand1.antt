@@ -1,6 +1,6 @@
 -- Demand 1, proved: each statement by its name in specs/Demand1.antt. Assumes nothing.
-use mathlib.Core.Path.{refl, sym, ap}
-use mathlib.Core.List.{List, [], _∷_, _++_}
+use mathlib.Core.Path.{refl, sym, ap, _∙_}
+use mathlib.Core.List.{List, [], _∷_, _++_, append-assoc}
 use Prim.Native.Nat.{ℕ}
 use Rattle.answer.specs.Lent.{noRoom}
 use Rattle.planning.specs.Groups.{pieceCount, some}
@@ -15,8 +15,10 @@ use Rattle.dealing.proofs.Laws as dealt
 use Rattle.pile.specs.Blocks.{blocks}
 use Rattle.joining.specs.Pile.{width}
 use Rattle.pile.specs.Lines.{everyBlock}
-use Rattle.joining.specs.Joined.{wholeLines, joinLines, joining}
+use Rattle.joining.specs.Checks.{wholeLines, pileLines}
+use Rattle.joining.specs.Joined.{joinLines, joining}
 use Rattle.joining.proofs.Laws as joined
+use Rattle.answer.specs.Checks.{Line}
 use Rattle.demands.specs.Demand1 as demand
 use Rattle.demands.proofs.LineLaws.{ends, refuses, each-number, each-within}
 use Rattle.demands.proofs.UnreadLaws.{unread}
@@ -48,8 +50,11 @@ unfolding dealLines planLines listLines people long strangers nobody opens clash
 deal-order d holder room = refl
 
 pub join-order : demand.JoinOrder
-unfolding joinLines everyBlock
-join-order pile room = ap (λ (ms : List ℕ). 13 ∷ 14 ∷ ms) (each-number pile (blocks pile) 1 (wholeLines pile room))
+unfolding joinLines pileLines everyBlock noRoom
+join-order pile room =
+    let last = noRoom (width pile) (width pile) room ∷ [] in
+    ap (λ (ls : List Line). 13 ∷ 14 ∷ demand.numbers ls) (append-assoc (everyBlock pile) (wholeLines pile) last)
+    ∙ ap (λ (ms : List ℕ). 13 ∷ 14 ∷ ms) (each-number pile (blocks pile) 1 (wholeLines pile ++ last))
 
 pub open-order : demand.OpenOrder
 open-order pile = refl

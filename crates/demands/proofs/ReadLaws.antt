@@ -14,16 +14,16 @@ use Rattle.answer.proofs.ThoseLaws.{those-same, at-in, in-at}
 use Rattle.field.proofs.Laws.{values-at}
 use Rattle.planning.specs.Groups.{_∈_}
 use Rattle.answer.proofs.Truth.{never}
-use Rattle.block.specs.Layout.{dealOf}
 use Rattle.block.specs.Open.{TrueBlock}
 use Rattle.dealing.specs.Deal.{Deal, pieceCount, held, values, blockOf, cardBlocks, flat}
 use Rattle.dealing.proofs.HeldLaws.{held-in}
 use Rattle.dealing.proofs.MadeLaws.{InRange}
 use Rattle.joining.specs.Pile as Pile
-use Rattle.pile.specs.Blocks.{blocks, restFrom, In}
-use Rattle.joining.specs.Pile.{width, pieceAt, hasPiece, placeOf, valueOf, present}
+use Rattle.pile.specs.Blocks.{blocks, restFrom, In, dealAt}
+use Rattle.joining.specs.Pile.{width, pieceAt, hasPiece, placeOf, valueOf, present, ownBlock}
 use Rattle.joining.specs.Laws.{Sound}
 use Rattle.joining.proofs.SoundLaws.{place-held}
+use Rattle.joining.proofs.PileLaws.{own-in}
 use Rattle.demands.specs.Group.{Member, CardsOf, WholeCards, gathers, gathered}
 use Rattle.demands.specs.Demand2.{CardBlock}
 use Rattle.demands.proofs.GroupLaws.{gathers-by, gathers-who}
@@ -97,14 +97,14 @@ module _ {d : Deal} {g : ℕ} {pile : List ℕ} (r : Reads d g pile) where
       let q = held-in d (t .who) (t .which) (t .has) in
       (omega (arith, q .0, t .says .piece-is), omega (arith, q .1, t .says .piece-is))
 
-  deal-is : (a : ℕ) → In pile a → dealOf (restFrom pile a) ≡ d .number ∷ d .policy .people ∷ pieceCount d ∷ length (d .secret) ∷ []
-  deal-is a h = let s = r .theirs a h .says in λ t. s .deal t ∷ s .people t ∷ s .pieces t ∷ s .width t ∷ []
+  deal-is : (a : ℕ) → In pile a → dealAt pile a ≡ record { number = d .number; people = d .policy .people; pieces = pieceCount d; width = length (d .secret) }
+  deal-is a h = let s = r .theirs a h .says in λ t. record { number = s .deal t; people = s .people t; pieces = s .pieces t; width = s .width t }
 
   pub pieces-are : 1 ≤ blocks pile → Pile.pieceCount pile ≡ pieceCount d
-  pieces-are some = r .theirs 1 (le-refl 1, some) .says .pieces
+  pieces-are some = r .theirs (ownBlock pile) (own-in pile some) .says .pieces
 
   pub width-is : 1 ≤ blocks pile → width pile ≡ length (d .secret)
-  width-is some = r .theirs 1 (le-refl 1, some) .says .width
+  width-is some = r .theirs (ownBlock pile) (own-in pile some) .says .width
 
   -- value i of block a is that of its piece
   pub value-is : (a i : ℕ) → In pile a → 1 ≤ i → i ≤ length (d .secret) → valueOf pile a i ≡ getD (values d (pieceAt pile a)) (i - 1) 0

@@ -3,22 +3,25 @@
 use Prim.Native.Nat.{ℕ, zero, suc, _+_, _%_, _≤_, _<_}
 use mathlib.Core.Path.{_≡_, _∙_}
 use mathlib.Core.Logic.{_≢_, ⊎-elim}
-use mathlib.Core.List.{List, _++_}
+use mathlib.Core.List.{List, [], _∷_, _++_}
 use native.Mathlib.Nat.{eq-or-lt-of-le, le-refl}
 use native.Mathlib.Omega.{arith}
 use lib.ListN.{length}
+use borrow.Author.Tests.{le-ltb}
 use Rattle.answer.specs.Outcome.{Outcome, done, refused}
 use Rattle.answer.specs.Checks.{Line, firstFail}
-use Rattle.answer.proofs.CheckLaws.{append-lines, passed-done}
+use Rattle.answer.specs.Lent.{noRoom}
+use Rattle.answer.proofs.CheckLaws.{given, not-given, append-lines, passed-done}
+use Rattle.answer.proofs.FirstLaws.{found-some, found-none}
 use Rattle.block.specs.Words.{wordAt}
-use Rattle.block.specs.Open.{firstAbove, blockLines, TrueBlock}
-use Rattle.block.proofs.OpenLaws.{small-of, says-unread}
+use Rattle.block.specs.Open.{firstAbove, unread as unreadLine, check, header, blockLines, TrueBlock}
+use Rattle.block.proofs.OpenLaws.{small-of}
 use Rattle.block.proofs.Laws.{true-means}
 use Rattle.pile.specs.Blocks.{blocks, restFrom, word, In}
 use Rattle.joining.specs.Pile.{width}
-use Rattle.pile.specs.Lines.{linesFrom, everyBlock}
-use Rattle.joining.specs.Joined.{wholeLines, joining}
-use Rattle.joining.proofs.ChainLaws.{is-whole, not-long}
+use Rattle.pile.specs.Lines.{tornPile, longPile, linesFrom, everyBlock}
+use Rattle.joining.specs.Checks.{wholeLines, pileLines}
+use Rattle.joining.specs.Joined.{joinLines, joining}
 
 above-found : (b : List ℕ) (i : ℕ) → 1 ≤ i → i ≤ 256 → 32748 < wordAt b i → firstAbove b ≢ 0
 above-found b i l u h z = omega (arith, small-of b z .small i l u)
@@ -32,8 +35,7 @@ module _ (pile : List ℕ) (a i : ℕ) (l : 1 ≤ i) (u : i ≤ 256) (h : 32748 
       let rest = linesFrom pile (b + 1) n ++ ls in
       ⊎-elim (λ (e : b ≡ a).
       rw e
-      (append-lines (blockLines (restFrom pile a) a) (linesFrom pile (a + 1) n ++ ls) end
-      ∙ says-unread (restFrom pile a) a (firstFail (linesFrom pile (a + 1) n ++ ls) end) (above-found (restFrom pile a) i l u h)))
+      (given (unreadLine (restFrom pile a) a) (check (restFrom pile a) a ∷ header (restFrom pile a) a ∷ linesFrom pile (a + 1) n ++ ls) end (found-some (above-found (restFrom pile a) i l u h))))
       (λ (less : b < a).
       append-lines (blockLines (restFrom pile b) b) rest end
       ∙ passed-done (blockLines (restFrom pile b) b) (firstFail rest end) (true-means (restFrom pile b) b .0 (t b (le-refl b) less))
@@ -42,7 +44,11 @@ module _ (pile : List ℕ) (a i : ℕ) (l : 1 ≤ i) (u : i ≤ 256) (h : 32748 
 
   pub unread : (room : ℕ) → length pile % 512 ≡ 0 → blocks pile ≤ 560 → In pile a → ((b : ℕ) → 1 ≤ b → b < a → TrueBlock (restFrom pile b))
       → joining pile room ≡ refused 15 a 0
-  unfolding everyBlock
+  unfolding joining joinLines pileLines everyBlock
   unread room whole few k t =
-      is-whole pile room whole ∙ not-long pile room few
-      ∙ unread-from (blocks pile) 1 (wholeLines pile room) (done (width pile)) (k .0) (omega (arith, k .1)) t
+      let last = noRoom (width pile) (width pile) room ∷ [] in
+      let end = firstFail last (done (width pile)) in
+      append-lines (pileLines pile) last (done (width pile))
+      ∙ not-given (tornPile pile) (longPile pile ∷ everyBlock pile ++ wholeLines pile) end (found-none whole)
+      ∙ not-given (longPile pile) (everyBlock pile ++ wholeLines pile) end (le-ltb 560 (blocks pile) few)
+      ∙ unread-from (blocks pile) 1 (wholeLines pile) end (k .0) (omega (arith, k .1)) t

@@ -20,8 +20,7 @@ use Rattle.dealing.specs.Deal.{Deal}
 use Rattle.dealing.specs.Dealt.{blockCount, dealLines, dealing, dealtInto}
 use Rattle.pile.specs.Blocks.{blocks, restFrom, word, In}
 use Rattle.joining.specs.Pile.{width}
-use Rattle.joining.specs.Joined.{joinLines, joining}
-use Rattle.joining.specs.Secret.{joinedInto}
+use Rattle.joining.specs.Joined.{joinLines, joining, joinedInto}
 
 -- A call is planning::plan, dealing::deal, joining::join or block::open. None has a `requires`, so each takes every input; that it ends is
 -- what proving a function shows; and its contract says that its answer is `planned`, `dealing`, `joining` or `opening` of its arguments.

@@ -19,8 +19,7 @@ use Rattle.planning.specs.Laws.{Suits, Clashes}
 use Rattle.block.specs.Words.{wordAt, checkOf}
 use Rattle.dealing.specs.Deal.{Deal, pieceCount, held, card}
 use Rattle.dealing.specs.Dealt.{Made, dealing, dealtInto}
-use Rattle.joining.specs.Joined.{joining}
-use Rattle.joining.specs.Secret.{joinedInto}
+use Rattle.joining.specs.Joined.{joining, joinedInto}
 use Rattle.joining.specs.Laws.{Joins, Fits}
 use Rattle.demands.specs.Group.{Group, Contains, Member}
 

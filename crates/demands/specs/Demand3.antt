@@ -11,8 +11,7 @@ use Rattle.field.specs.Pieces.{Random}
 use Rattle.planning.specs.Groups.{_∈_}
 use Rattle.dealing.specs.Deal.{Deal, again, pieceCount, card}
 use Rattle.dealing.specs.Dealt.{Made, dealing, dealtInto}
-use Rattle.joining.specs.Joined.{joining}
-use Rattle.joining.specs.Secret.{joinedInto}
+use Rattle.joining.specs.Joined.{joining, joinedInto}
 use Rattle.demands.specs.Group.{Group, Contains, Member, WholeCards, cards, members, gathered}
 
 -- "If the group contains a required set, joining returns the dealt secret": the answer is w, and the secret stands in the first w words of

@@ -1,9 +1,13 @@
 -- This room's laws, proved: each by its name in specs/Laws.antt. Assumes nothing.
-use mathlib.Core.Path.{_∙_}
+use mathlib.Core.Path.{_≡_, _∙_}
+use mathlib.Core.List.{List}
 use native.Mathlib.Nat.{pos-of-ne-zero}
-use Prim.Native.Nat.{_-_}
+use Prim.Native.Nat.{ℕ, _-_, _≤_}
 use native.Mathlib.Omega.{arith}
 use lib.ListN.{length}
+use Rattle.field.specs.Secret.{column}
+use Rattle.field.specs.Joined.{joined}
+use Rattle.field.specs.Poly.{value, Through, One}
 use Rattle.field.specs.Laws as law
 use Rattle.field.proofs.Prime as prime
 use Rattle.field.proofs.Unique as unique
@@ -15,6 +19,7 @@ use Rattle.field.proofs.Pairing as pairing
 use Rattle.field.proofs.HidingLaws as hiding
 use Rattle.field.proofs.Table as table
 use Rattle.field.proofs.AddedLaws as sums
+use Rattle.field.proofs.SecretLaws as secret
 
 pub no-divisor : law.NoDivisor
 no-divisor m h l e = omega (arith, prime.no-divisor m h l)
@@ -68,3 +73,12 @@ added-at = sums.added-at
 
 pub values-added : law.ValuesAdded
 values-added = sums.values-added
+
+pub secret-one : law.SecretOne
+secret-one v k w h b =
+    let word : (i : ℕ) → 1 ≤ i → i ≤ w → (cs : List ℕ) × One (λ ds. Through ds (column v k i)) cs × (joined (column v k i) ≡ value cs 0)
+    = λ i l u. joined-one (column v k i) (secret.column-below v k i (λ j m n. b j i m n l u)) (omega (arith, secret.column-length v k i)) in (
+      secret.secret-length v k w,
+      secret.secret-below v k w (λ i l u. let r = word i l u in omega (arith, r .2, unique.value-start (r .0) (r .1 .is .below))),
+      λ i l u. let r = word i l u in (r .0, r .1, secret.secret-at v k w i l u ∙ r .2),
+    )

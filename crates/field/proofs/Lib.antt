@@ -14,4 +14,5 @@ pub mod Table
 pub mod HidingLaws
 pub mod Pairing
 pub mod AddedLaws
+pub mod SecretLaws
 pub mod Laws

@@ -13,6 +13,7 @@ use Rattle.field.specs.Joined.{joined}
 use Rattle.field.specs.Inverse.{inverse}
 use Rattle.field.specs.Lagrange.{Weights, weightsOf}
 use Rattle.field.specs.Added.{added}
+use Rattle.field.specs.Secret.{column, secretOf}
 
 -- 32749 has no divisor but 1 and itself.
 abbrev pub NoDivisor : Type 0
@@ -92,3 +93,11 @@ AddedAt = (xs ys : List ℕ) → length xs ≡ length ys → (i : ℕ) → getD 
 abbrev pub ValuesAdded : Type 0
 ValuesAdded = (q : ℕ) (ds ds′ rs rs′ : List ℕ) (j : ℕ) → length ds ≡ length ds′ → length rs ≡ length rs′
     → values q (added ds ds′) (added rs rs′) j ≡ added (values q ds rs j) (values q ds′ rs′ j)
+
+-- The secret of k pieces has w words, each one of 0 to 32748, and word i is the value at 0 of the one polynomial of degree below k that has
+-- value i of piece j at j, for each piece 1 to k.
+abbrev pub SecretOne : Type 0
+SecretOne = (v : ℕ → ℕ → ℕ) (k w : ℕ) → k < p → ((j i : ℕ) → 1 ≤ j → j ≤ k → 1 ≤ i → i ≤ w → v j i < p)
+    → (length (secretOf v k w) ≡ w)
+    × Below (secretOf v k w)
+    × ((i : ℕ) → 1 ≤ i → i ≤ w → (cs : List ℕ) × One (λ ds. Through ds (column v k i)) cs × (getD (secretOf v k w) (i - 1) 0 ≡ value cs 0))

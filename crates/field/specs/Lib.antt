@@ -5,4 +5,5 @@ pub mod Joined
 pub mod Inverse
 pub mod Lagrange
 pub mod Added
+pub mod Secret
 pub mod Laws

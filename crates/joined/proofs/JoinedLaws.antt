@@ -10,8 +10,8 @@ use borrow.Author.Tests.{lt-ltb, le-ltb}
 use Rattle.answer.specs.Outcome.{Outcome, done, refused}
 use Rattle.answer.specs.Checks.{firstFail}
 use Rattle.answer.proofs.CheckLaws.{given, not-given}
-use Rattle.joining.specs.Joined.{joining}
-use Rattle.joining.specs.Secret.{secret, joinedInto}
+use Rattle.joining.specs.Joined.{joining, joinedInto}
+use Rattle.joining.specs.Secret.{secret}
 use Rattle.joining.proofs.Laws.{then-joins, result-writes}
 use Rattle.print.specs.Lines.{refusedLine, secretLine}
 use Rattle.joined.specs.Joined.{tooLong, programJoins, lineOf, joinedLine}

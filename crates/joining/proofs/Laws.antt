@@ -6,11 +6,10 @@ use native.Mathlib.Omega.{arith}
 use lib.ListN.{length, drop}
 use Rattle.answer.specs.Lent.{over}
 use Rattle.answer.proofs.LentLaws as lent
-use Rattle.field.specs.Joined.{joined}
-use Rattle.lists.proofs.RunLaws.{run-length}
-use Rattle.joining.specs.Pile.{width}
-use Rattle.joining.specs.Joined.{joining}
-use Rattle.joining.specs.Secret.{column, secret, joinedInto}
+use Rattle.field.proofs.SecretLaws.{secret-length}
+use Rattle.joining.specs.Pile.{pieceCount, width, valueAt}
+use Rattle.joining.specs.Joined.{joining, joinedInto}
+use Rattle.joining.specs.Secret.{secret}
 use Rattle.joining.specs.Laws as law
 use Rattle.joining.proofs.ConflictLaws.{by-first, with-first}
 use Rattle.joining.proofs.SoundLaws as sound
@@ -52,10 +51,10 @@ any-order pile other room w e whole few g f =
     order-free pile other room w e whole few (order.true-within pile other (t .sound .blocks-true) f) (order.among pile other g) (order.among other pile f)
 
 pub result-writes : law.ResultWrites
-unfolding secret joinedInto over
+unfolding joinedInto over
 result-writes pile old w e =
     let t = sound.then-joins pile (length old) w e in
-    let n : length (secret pile) ≡ w = run-length (λ i. joined (column pile i)) 1 (width pile) ∙ t .is in
+    let n : length (secret pile) ≡ w = secret-length (valueAt pile) (pieceCount pile) (width pile) ∙ t .is in
     (n, lent.result-writes (joining pile (length old)) w (secret pile) old e ∙ ap (λ (x : ℕ). secret pile ++ drop x old) n)
 
 pub refusal-keeps : law.RefusalKeeps

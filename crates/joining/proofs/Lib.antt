@@ -1,8 +1,8 @@
 pub mod PileLaws
 pub mod TableLaws
 pub mod ConflictLaws
-pub mod EnoughLaws
-pub mod ChainLaws
+pub mod ShortLaws
+pub mod PassedLaws
 pub mod SecretLaws
 pub mod SoundLaws
 pub mod PolyLaws

@@ -3,24 +3,27 @@
 use mathlib.Core.Path.{_≡_, sym, ap, _∙_}
 use mathlib.Core.List.{List}
 use Prim.Native.Nat.{ℕ, _+_, _%_, _≤_}
-use native.Mathlib.Nat.{le-refl}
 use native.Mathlib.Omega.{arith}
-use lib.ListN.{length, getD}
+use lib.ListN.{length}
 use Rattle.field.specs.Poly.{p, value}
 use Rattle.field.specs.Joined.{joined}
-use Rattle.lists.proofs.RunLaws.{run-is, run-length}
-use Rattle.block.specs.Layout.{dealOf}
-use Rattle.pile.specs.Blocks.{blocks, restFrom, word, TrueBlocks}
-use Rattle.joining.specs.Pile.{pieceCount, width, pieceAt, valueOf}
-use Rattle.joining.specs.Secret.{column, secret}
+use Rattle.lists.proofs.RunLaws.{run-is}
+use Rattle.block.specs.declared.deal.DealWords.{DealWords}
+use Rattle.block.proofs.Laws.{only-words}
+use Rattle.field.specs.Secret.{column, secretOf}
+use Rattle.field.proofs.SecretLaws.{secret-at, secret-length}
+use Rattle.pile.specs.Blocks.{blocks, restFrom, word, TrueBlocks, dealAt}
+use Rattle.joining.specs.Pile.{ownBlock, ownDeal, pieceCount, width, pieceAt, valueOf, valueAt}
+use Rattle.joining.specs.Secret.{secret}
 use Rattle.joining.specs.Laws.{Joins, Fits, Alike, Among, Within}
 use Rattle.pile.proofs.PileLaws.{rest-long}
-use Rattle.joining.proofs.PileLaws.{width-in, true-same}
-use Rattle.joining.proofs.PolyLaws.{joined-secret, word-of}
+use Rattle.joining.proofs.PileLaws.{own-in, width-in}
+use Rattle.joining.proofs.PolyLaws.{full, joined-secret}
+use Rattle.joining.proofs.SoundLaws.{sound-deal}
 
 -- blocks that are alike agree in their deal, piece and values
 module _ {pile other : List ℕ} {a b : ℕ} (same : Alike pile a other b) where
-  deal-same : dealOf (restFrom pile a) ≡ dealOf (restFrom other b)
+  deal-same : dealAt pile a ≡ dealAt other b
   deal-same =
       rw (
         same .words 2 (omega arith) (omega arith) (λ e. omega arith),
@@ -36,26 +39,24 @@ module _ {pile other : List ℕ} {a b : ℕ} (same : Alike pile a other b) where
   value-same i h = same .words (7 + i) (omega arith) (omega arith) (λ e. omega arith)
 
 module _ (pile other : List ℕ) (room w : ℕ) (t : Joins pile room w) (f : Among other pile) (some : 1 ≤ blocks other) where
-  -- block 1 of the other pile is of the deal of this one
-  own-deal : dealOf (restFrom other 1) ≡ dealOf (restFrom pile 1)
-  own-deal =
-      let x = f .block 1 (le-refl 1, some) in
-      deal-same (x .2) ∙ t .sound .one-deal (x .0) 1 (x .1) (le-refl 1, t .some)
+  -- the other pile's own deal is that of this one
+  same-own : ownDeal other ≡ ownDeal pile
+  same-own = let x = f .block (ownBlock other) (own-in other some) in deal-same (x .2) ∙ sound-deal pile (t .sound) (x .0) (x .1)
 
   same-pieces : pieceCount other ≡ pieceCount pile
-  same-pieces = ap (λ (l : List ℕ). getD l 2 0) own-deal
+  same-pieces = ap (λ (d : DealWords). d .pieces) same-own
 
   same-width : width other ≡ width pile
-  same-width = ap (λ (l : List ℕ). getD l 3 0) own-deal
+  same-width = ap (λ (d : DealWords). d .width) same-own
 
 pub other-joins : (pile other : List ℕ) (room w : ℕ) → Joins pile room w → length other % 512 ≡ 0 → blocks other ≤ 560 → TrueBlocks other
     → Among pile other → Among other pile → Joins other room w
 other-joins pile other room w t whole few true-other g f =
-    let first = g .block 1 (le-refl 1, t .some) in
+    let first = g .block (ownBlock pile) (own-in pile (t .some)) in
     let some : 1 ≤ blocks other = omega (arith, first .1 .0, first .1 .1) in
     let ks = same-pieces pile other room w t f some in
     let ws = same-width pile other room w t f some in
-    let wide = width-in pile (t .sound .blocks-true) (t .some) in
+    let wide = width-in (full pile room w t .unmixed) in
     record {
       sound = record {
         whole = whole;
@@ -83,24 +84,21 @@ other-joins pile other room w t whole few true-other g f =
 
 pub same-secret : (pile other : List ℕ) (room w : ℕ) → Joins pile room w → Joins other room w → Among other pile → secret other ≡ secret pile
 same-secret pile other room w t u f =
-    unfold secret in
-    run-is (λ i. joined (column pile i)) (width pile) (secret other) (count ∙ ws)
+    unfold secretOf in
+    run-is (λ i. joined (column (valueAt pile) (pieceCount pile) i)) (width pile) (secret other) (secret-length (valueAt other) (pieceCount other) (width other) ∙ ws)
     (λ i l h.
     let x = joined-secret pile room w t i l h in
     let y = joined-secret other room w u i l (omega (arith, ws)) in
     let e : x .0 ≡ y .0 = y .1 .only (x .0) (moved i (x .0) h (x .1 .is)) in
-    y .2 ∙ ap (λ (cs : List ℕ). value cs 0) (sym e) ∙ sym (x .2) ∙ word-of pile room w t i l h)
+    y .2 ∙ ap (λ (cs : List ℕ). value cs 0) (sym e) ∙ sym (x .2) ∙ secret-at (valueAt pile) (pieceCount pile) (width pile) i l h)
   where
     ws : width other ≡ width pile
     ws = u .is ∙ sym (t .is)
 
-    count : length (secret other) ≡ width other
-    count = unfold secret in run-length (λ i. joined (column other i)) 1 (width other)
-
     moved : (i : ℕ) (cs : List ℕ) → i ≤ width pile → Fits pile i cs → Fits other i cs
     moved i cs h m =
         let ks = same-pieces pile other room w t f (u .some) in
-        let wide = width-in pile (t .sound .blocks-true) (t .some) in
+        let wide = width-in (full pile room w t .unmixed) in
         record {
           degree = m .degree ∙ sym ks;
           below = m .below;
@@ -117,5 +115,5 @@ pub true-within : (pile other : List ℕ) → TrueBlocks pile → Within other p
 true-within pile other t g = record {
   block = λ a l h.
       let r = g .block a (l, h) in
-      true-same (restFrom pile (r .0)) (restFrom other a) (t .block (r .0) (r .1 .0) (r .1 .1)) (rest-long other a l h) (r .2);
+      only-words (restFrom pile (r .0)) (restFrom other a) (λ i u v. sym (r .2 i u v)) .2 (t .block (r .0) (r .1 .0) (r .1 .1)) (rest-long other a l h);
 }

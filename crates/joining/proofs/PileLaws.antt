@@ -1,17 +1,23 @@
--- Laws of a pile's blocks: where the rest of it begins, and what its true blocks say. Assumes nothing.
-use mathlib.Core.Path.{_≡_, sym, _∙_}
-use mathlib.Core.Bool.{true, false}
+-- What an unmixed pile says of its own deal and of its blocks' pieces. Assumes nothing.
+use mathlib.Core.Path.{_≡_, sym, ap, _∙_}
+use mathlib.Core.Bool.{not, true, false}
 use mathlib.Core.List.{List}
-use Prim.Native.Nat.{ℕ, _≤_}
+use Prim.Native.Nat.{ℕ, _+_, _≤_}
+use native.Mathlib.Nat.{le-refl}
 use native.Mathlib.Omega.{arith}
 use lib.Dec.{eqb}
-use lib.ListN.{length}
-use borrow.Author.Tests.{eq-eqb, ne-eqb}
-use Rattle.block.specs.Words.{wordAt}
-use Rattle.block.specs.Open.{TrueBlock}
-use Rattle.block.proofs.SumLaws.{check-same}
-use Rattle.pile.specs.Blocks.{blocks, TrueBlocks}
-use Rattle.joining.specs.Pile.{width, pieceCount, pieceAt}
+use borrow.Author.Tests.{eq-eqb, ne-eqb, not-false}
+use Rattle.answer.proofs.FirstLaws.{none-in}
+use Rattle.block.specs.declared.deal.DealWords.{DealWords}
+use Rattle.block.specs.Deals.{sameDeal}
+use Rattle.block.specs.Laws.{Ranges}
+use Rattle.block.specs.Layout.{labelOf}
+use Rattle.block.proofs.DealLaws.{same-deal}
+use Rattle.block.proofs.RangeLaws.{true-ranges}
+use Rattle.pile.specs.Blocks.{blocks, In, restFrom, dealAt, TrueBlocks}
+use Rattle.joining.specs.Pile.{ownBlock, ownDeal, pieceCount, width, pieceAt}
+use Rattle.joining.specs.Checks.{mixedAt}
+use Rattle.joining.specs.True.{Unmixed}
 
 -- a test of two numbers, by what they are
 pub equal : {x y u v : ℕ} → x ≡ u → y ≡ v → x ≡ y → eqb u v ≡ true
@@ -20,39 +26,35 @@ equal {u = u} {v = v} p q e = eq-eqb u v (sym p ∙ e ∙ q)
 pub other : {x y u v : ℕ} → x ≡ u → y ≡ v → (x ≡ y → ⊥) → eqb u v ≡ false
 other {u = u} {v = v} p q f = ne-eqb u v (λ e. f (p ∙ e ∙ sym q))
 
--- what a true block says of its words, in the pile's terms
-pub width-in : (pile : List ℕ) → TrueBlocks pile → 1 ≤ blocks pile → (1 ≤ width pile) × (width pile ≤ 16)
-width-in pile t l = t .block 1 (omega arith) l .layout .width
+-- the pile's own deal is that of one of its blocks
+pub own-in : (pile : List ℕ) → 1 ≤ blocks pile → In pile (ownBlock pile)
+unfolding ownBlock
+own-in pile h = (le-refl 1, h)
 
-pub pieces-in : (pile : List ℕ) → TrueBlocks pile → 1 ≤ blocks pile → (1 ≤ pieceCount pile) × (pieceCount pile ≤ 70)
-pieces-in pile t l = t .block 1 (omega arith) l .layout .pieces
+-- where MIXED passes, every block is of it
+pub unmixed : (pile : List ℕ) → 1 ≤ blocks pile → TrueBlocks pile → mixedAt pile ≡ 0 → Unmixed pile
+unfolding mixedAt
+unmixed pile some t z = record {
+  some = some;
+  blocks-true = t;
+  own-deal = λ a h.
+      same-deal (dealAt pile a) (ownDeal pile)
+      (not-false (sameDeal (dealAt pile a) (ownDeal pile))
+      (none-in (λ b. not (sameDeal (dealAt pile b) (ownDeal pile))) 1 (blocks pile + 1) (le-refl 1) z a (h .0) (omega (arith, h .1))));
+}
 
-pub piece-in : (pile : List ℕ) → TrueBlocks pile → (a : ℕ) → 1 ≤ a → a ≤ blocks pile → (1 ≤ pieceAt pile a) × (pieceAt pile a ≤ 70)
-piece-in pile t a l h =
-    let y = t .block a l h .layout in
-    (y .piece .0, omega (arith, y .piece .1, y .pieces .1))
+module _ {pile : List ℕ} (u : Unmixed pile) where
+  own-ranges : Ranges (labelOf (restFrom pile (ownBlock pile)))
+  own-ranges = let o = own-in pile (u .some) in true-ranges (u .blocks-true .block (ownBlock pile) (o .0) (o .1))
 
--- a block with the words of a true block is one
-pub true-same : (b c : List ℕ) → TrueBlock b → 512 ≤ length c → ((i : ℕ) → 1 ≤ i → i ≤ 256 → wordAt c i ≡ wordAt b i) → TrueBlock c
-true-same b c t l e =
-    let y = t .layout in
-    let e₃ = e 3 (omega arith) (omega arith) in
-    let e₄ = e 4 (omega arith) (omega arith) in
-    let e₅ = e 5 (omega arith) (omega arith) in
-    let e₆ = e 6 (omega arith) (omega arith) in
-    let e₇ = e 7 (omega arith) (omega arith) in
-    record {
-      long = l;
-      clean = record { small = λ i u v. omega (arith, e i u v, t .clean .small i u v) };
-      sum = check-same c b (λ i u v. e i u (omega arith)) ∙ t .sum ∙ sym (e 256 (omega arith) (omega arith));
-      layout = record {
-        mark = e 1 (omega arith) (omega arith) ∙ y .mark;
-        deal = omega (arith, e 2 (omega arith) (omega arith), y .deal);
-        holder = (omega (arith, e₃, y .holder .0), omega (arith, e₃, y .holder .1));
-        people = (omega (arith, e₄, y .people .0), omega (arith, e₄, y .people .1), omega (arith, e₃, e₄, y .people .2));
-        pieces = (omega (arith, e₅, y .pieces .0), omega (arith, e₅, y .pieces .1));
-        width = (omega (arith, e₆, y .width .0), omega (arith, e₆, y .width .1));
-        piece = (omega (arith, e₇, y .piece .0), omega (arith, e₅, e₇, y .piece .1));
-        zeros = λ i u v. e i (omega arith) (omega arith) ∙ y .zeros i (omega (arith, e₆)) v;
-      };
-    }
+  pub width-in : (1 ≤ width pile) × (width pile ≤ 16)
+  width-in = own-ranges .width
+
+  pub pieces-in : (1 ≤ pieceCount pile) × (pieceCount pile ≤ 70)
+  pieces-in = own-ranges .pieces
+
+  -- a block's piece is one of 1 to k
+  pub piece-in : (a : ℕ) → In pile a → (1 ≤ pieceAt pile a) × (pieceAt pile a ≤ pieceCount pile)
+  piece-in a h =
+      let r = true-ranges (u .blocks-true .block a (h .0) (h .1)) .piece in
+      (r .0, omega (arith, r .1, ap (λ (d : DealWords). d .pieces) (u .own-deal a h)))

@@ -8,18 +8,18 @@ use lib.ListN.{length, getD, drop}
 use Rattle.answer.specs.Outcome.{done, refused}
 use Rattle.answer.specs.Places.{found}
 use Rattle.field.specs.Poly.{p, value, Below, One}
-use Rattle.block.specs.Layout.{dealOf}
-use Rattle.pile.specs.Blocks.{blocks, restFrom, word, firstBlock, TrueBlocks, In}
+use Rattle.pile.specs.Blocks.{blocks, word, dealAt, firstBlock, TrueBlocks, In}
 use Rattle.joining.specs.Pile.{pieceCount, width, pieceAt, placeOf, valueOf, differIn, present}
-use Rattle.joining.specs.Joined.{contradictedBy, conflictAt, joining}
-use Rattle.joining.specs.Secret.{secret, joinedInto}
+use Rattle.joining.specs.Checks.{contradictedBy, conflictAt}
+use Rattle.joining.specs.Joined.{joining, joinedInto}
+use Rattle.joining.specs.Secret.{secret}
 
 -- a pile of whole, true blocks, at most 560, that are of one deal and say the same of each piece
 pub record Sound (pile : List ℕ) : Type 0 where
   pub whole : length pile % 512 ≡ 0
   pub few : blocks pile ≤ 560
   pub blocks-true : TrueBlocks pile
-  pub one-deal : (a b : ℕ) → In pile a → In pile b → dealOf (restFrom pile a) ≡ dealOf (restFrom pile b)
+  pub one-deal : (a b : ℕ) → In pile a → In pile b → dealAt pile a ≡ dealAt pile b
   pub agree : (a b : ℕ) → In pile a → In pile b → pieceAt pile a ≡ pieceAt pile b → (i : ℕ) → 1 ≤ i → i ≤ width pile → valueOf pile a i ≡ valueOf pile b i
 
 -- what joins: a sound pile with a block for each piece 1 to k, and room for w words

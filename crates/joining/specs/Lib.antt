@@ -1,5 +1,6 @@
 pub mod Pile
-pub mod Joined
+pub mod Checks
 pub mod Secret
+pub mod Joined
 pub mod True
 pub mod Laws

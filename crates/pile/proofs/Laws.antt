@@ -1,6 +1,5 @@
 -- This room's laws, proved: each by its name in specs/Laws.antt. Assumes nothing.
-use mathlib.Core.Path.{refl, sym, ap₂}
-use Prim.Native.Nat.{ℕ, _+_, _-_, _*_}
+use mathlib.Core.Path.{refl, sym}
 use lib.Seq.{getD-drop}
 use Rattle.block.specs.Words.{wordAt}
 use Rattle.pile.specs.Blocks.{restFrom}

@@ -1,11 +1,13 @@
--- A pile of card blocks: how many it has, the rest of it from each block on, and its words. Blocks and words count from 1.
+-- A pile of card blocks: how many it has, the rest of it from each block on, their words and deals. Blocks and words count from 1.
 -- Assumes nothing.
 use Prim.Native.Nat.{ℕ, _+_, _-_, _*_, _/_, _≤_}
 use mathlib.Core.Bool.{Bool}
 use mathlib.Core.List.{List}
 use lib.ListN.{length, drop}
 use Rattle.answer.specs.Places.{firstIn}
+use Rattle.block.specs.declared.deal.DealWords.{DealWords}
 use Rattle.block.specs.Words.{wordAt}
+use Rattle.block.specs.Deals.{dealWords}
 use Rattle.block.specs.Open.{TrueBlock}
 
 -- how many whole blocks a pile has
@@ -23,6 +25,10 @@ restFrom pile a = drop (512 * (a - 1)) pile
 -- word i of block a
 abbrev pub word : List ℕ → ℕ → ℕ → ℕ
 word pile a i = wordAt (restFrom pile a) i
+
+-- which deal block a is of
+abbrev pub dealAt : List ℕ → ℕ → DealWords
+dealAt pile a = dealWords (restFrom pile a)
 
 -- the first block with the test, or 0 where no block has it
 abbrev pub firstBlock : List ℕ → (ℕ → Bool) → ℕ

@@ -1,11 +1,12 @@
 // A pile of card blocks: its words, and its blocks in order, each given as the rest of the pile. The definitions that the contracts cite
 // are in specs/, under the functions' names.
 use answer::Answer;
+use block::DealWords;
 ghost use mathlib.Core.Path.{_≡_};
 ghost use Prim.Native.Nat.{_≤_};
 ghost use Rattle.answer.specs.Outcome.{outcome, done};
 ghost use Rattle.answer.specs.Checks.{firstFail};
-ghost use Rattle.pile.specs.Blocks.{blocks, word};
+ghost use Rattle.pile.specs.Blocks.{blocks, In, word, dealAt};
 ghost use Rattle.pile.specs.Lines.{everyBlock};
 
 // Word i of block a.
@@ -14,6 +15,14 @@ pub fn word(pile: &[u8], a: usize, i: usize) -> u16
     ensures { λ r. ⌜ r ≡ word (now (pile .entry)) a i ⌝ }
 {
     block::word(&pile[512 * (a - 1)..], i)
+}
+
+// Which deal block a is of.
+pub fn deal_at(pile: &[u8], a: usize) -> DealWords
+    requires { ⌜ In (now pile) a ⌝ }
+    ensures { λ r. ⌜ r ≡ dealAt (now (pile .entry)) a ⌝ }
+{
+    block::deal_words(&pile[512 * (a - 1)..])
 }
 
 // The blocks in pile order, each for UNREAD, CHECK and HEADER: each step is given the rest of the pile.

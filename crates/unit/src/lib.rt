@@ -14,8 +14,7 @@ ghost use Rattle.planning.specs.Planned.{planned};
 ghost use Rattle.block.specs.Open.{opening, wordsOf};
 ghost use Rattle.dealing.specs.Deal.{dealFrom};
 ghost use Rattle.dealing.specs.Dealt.{dealing, dealtInto};
-ghost use Rattle.joining.specs.Joined.{joining};
-ghost use Rattle.joining.specs.Secret.{joinedInto};
+ghost use Rattle.joining.specs.Joined.{joining, joinedInto};
 ghost use Rattle.unit.specs.Said.{said, seven, numberOf, groupsInto, headInto};
 
 // Number 0: a result, its value in a; else a refusal and its two places.

@@ -6,8 +6,7 @@ use Prim.Native.Nat.{ℕ, _≤_}
 use borrow.Author.Needs.{needs}
 use lib.ListN.{length, replicate}
 use Rattle.answer.specs.Outcome.{outcome, done}
-use Rattle.joining.specs.Joined.{joining}
-use Rattle.joining.specs.Secret.{joinedInto}
+use Rattle.joining.specs.Joined.{joining, joinedInto}
 use Rattle.print.specs.Written.{Prints}
 use Rattle.joined.proofs.JoinedLaws.{is-long, is-secret, is-refused, secret-fits, secret-counts}
 use Rattle.joined.proofs.joined_line.Statement.{statement}

@@ -1,63 +1,133 @@
--- `joining::join` meets its contract: the checks speak, and where they give w the secret is written.
+-- `joining::join` meets its contract: the checks of the pile speak, then ROOM, and past them the secret is written.
 -- Assumes nothing.
-use mathlib.Core.Path.{sym, ap, _∙_}
+use mathlib.Core.Path.{_≡_, sym, ap, subst, _∙_}
+use mathlib.Core.List.{List, [], _∷_}
+use Prim.Native.Nat.{ℕ}
+use native.Mathlib.Omega.{arith}
 use lib.ListN.{length}
-use Rattle.answer.specs.Outcome.{outcome}
-use Rattle.answer.proofs.LentLaws.{result-writes, refusal-keeps}
-use Rattle.joining.specs.Joined.{joining}
-use Rattle.joining.specs.Secret.{secret, joinedInto}
-use Rattle.joining.proofs.ChainLaws.{accepted}
+use Rattle.answer.specs.Outcome.{outcome, done, refused}
+use Rattle.answer.specs.Checks.{Line, firstFail}
+use Rattle.answer.specs.Lent.{noRoom}
+use Rattle.answer.proofs.CheckLaws.{given, stops, goes-on, done-passed}
+use Rattle.answer.proofs.LentLaws.{room-refused, room-given, result-writes, refusal-keeps}
+use Rattle.block.specs.declared.deal.DealWords.{DealWords}
+use Rattle.field.specs.Lagrange.{Weights}
+use Rattle.field.proofs.Laws.{weights-are}
+use Rattle.joining.specs.Pile.{width}
+use Rattle.joining.specs.Checks.{pileLines}
+use Rattle.joining.specs.Joined.{joinLines, joining, joinedInto}
+use Rattle.joining.specs.Secret.{secret}
+use Rattle.joining.specs.True.{Full}
+use Rattle.joining.proofs.PileLaws.{pieces-in}
+use Rattle.joining.proofs.PassedLaws.{accepted}
 use borrow.Author.Needs.{needs}
 use Rattle.joining.proofs.join.Statement.{statement}
 use Rattle.joining.proofs.join.Tie as tie
 
-check-requires : tie.Need-check-requires
-check-requires c κs = search needs
+-- the lines after those of the pile
+abbrev last : List ℕ → ℕ → List Line
+last pile room = noRoom (width pile) (width pile) room ∷ []
+
+-- past the checks of the pile it is full, and the line of ROOM is left
+past-pile : (c : tie.After-enum-told) → Full (c .before .before .before .before .before .args .pile .now)
+past-pile c =
+    let f = c .before .before in
+    let p = f .before .before .before .args .pile .now in
+    accepted p (done-passed (pileLines p) (done 0) _ (sym (f .check-pile .ensures) ∙ ap outcome (c .enum-told .given .1)) .0) .full
+
+left1 : (c : tie.After-enum-told) (room : ℕ)
+    → joining (c .before .before .before .before .before .args .pile .now) room
+    ≡ firstFail (last (c .before .before .before .before .before .args .pile .now) room) (done (width (c .before .before .before .before .before .args .pile .now)))
+unfolding joining joinLines
+left1 c room =
+    let f = c .before .before in
+    let p = f .before .before .before .args .pile .now in
+    goes-on (pileLines p) (f .check-pile .ensures) (last p room) (done (width p)) (c .enum-told .given .1)
+
+check-pile-requires : tie.Need-check-pile-requires
+check-pile-requires c κs = search needs
+
+enum-known-r : tie.Need-enum-known-r
+enum-known-r c = search needs
+
+returns : tie.Need-returns
+unfolding joining joinLines joinedInto
+returns c =
+    let f = c .before .before .before in
+    let a = f .before .before .before .args in
+    let e = stops (pileLines (a .pile .now)) (f .check-pile .ensures) (last (a .pile .now) (length (a .out .now))) (done (width (a .pile .now))) (c .before .r .given .1) in
+    (e, sym (refusal-keeps _ _ _ _ (secret (a .pile .now)) (a .out .now) (sym e)))
 
 enum-told : tie.Need-enum-told
 enum-told c = search needs
 
-write-secret-requires : tie.Need-write-secret-requires
-write-secret-requires c κs =
-    let k = c .before .before .before in
-    let a = k .before .before .before .args in
-    let t = accepted (a .pile .now) (length (a .out .now)) _ (sym (k .check .ensures) ∙ ap outcome (c .before .enum-told .given .1)) in
-    (t .full, t .fits)
+own-deal-requires : tie.Need-own-deal-requires
+own-deal-requires c κs = past-pile c .unmixed .some
 
-enum-told-2 : tie.Need-enum-told-2
-enum-told-2 c = search needs
+cast-k : tie.Need-cast-k
+cast-k c = search needs
 
-same-length : tie.Need-same-length
-same-length c = search needs
+cast-w : tie.Need-cast-w
+cast-w c = search needs
 
-returns : tie.Need-returns
-unfolding joinedInto
-returns c =
-    let t = c .before .before .before .before in
-    let k = t .before .before in
-    let a = k .before .before .before .args in
-    let o = joining (a .pile .now) (length (a .out .now)) in (
-      k .check .ensures,
-      c .before .before .write-secret .ensures
-          ∙ sym (result-writes o _ (secret (a .pile .now)) (a .out .now) (sym (k .check .ensures) ∙ ap outcome (t .enum-told .given .1))),
-    )
+w-is : (c : tie.After-own-deal) → c .own-deal .result .width ≡ width (c .before .before .before .before .before .before .args .pile .now)
+w-is c = ap (λ (d : DealWords). d .width) (c .own-deal .ensures)
+
+refuse-requires : tie.Need-refuse-requires
+refuse-requires c κs = search needs
 
 returns-2 : tie.Need-returns-2
 unfolding joinedInto
 returns-2 c =
-    let k = c .before .before in
-    let a = k .before .before .before .args in
-    let o = joining (a .pile .now) (length (a .out .now)) in
-    (k .check .ensures, sym (refusal-keeps o _ _ _ (secret (a .pile .now)) (a .out .now) (sym (k .check .ensures) ∙ ap outcome (c .enum-told2 .given .1))))
+    let i = c .before in
+    let o = i .before .before .before in
+    let t = o .before in
+    let a = t .before .before .before .before .before .args in
+    let w = w-is o in
+    let e = left1 t (length (a .out .now)) ∙ room-refused (width (a .pile .now)) _ (length (a .out .now)) _ (rw w at (i .if1 .taken)) in
+    (c .refuse .ensures ∙ ap (λ n. refused 12 n 0) w ∙ sym e, sym (refusal-keeps _ _ _ _ (secret (a .pile .now)) (a .out .now) e))
+
+weights-requires : tie.Need-weights-requires
+weights-requires c κs =
+    let o = c .before .before .before in
+    omega (arith, ap (λ (d : DealWords). d .pieces) (o .own-deal .ensures), pieces-in (past-pile (o .before) .unmixed) .1)
+
+write-secret-requires : tie.Need-write-secret-requires
+write-secret-requires c κs =
+    let t = c .before .before in
+    let i = t .before in
+    let o = i .before .before .before in
+    (past-pile (o .before), ((ap (λ (d : DealWords). d .pieces) (o .own-deal .ensures), w-is o), (subst (Weights _) (sym (t .weights .ensures)) (weights-are _), i .if1 .left)))
+
+same-length : tie.Need-same-length
+same-length c = search needs
+
+returns-3 : tie.Need-returns-3
+unfolding joinedInto
+returns-3 c =
+    let r = c .before .before in
+    let i = r .before .before .before .before in
+    let o = i .before .before .before in
+    let t = o .before in
+    let a = t .before .before .before .before .before .args in
+    let w = w-is o in
+    let e = left1 t (length (a .out .now)) ∙ room-given (width (a .pile .now)) _ (length (a .out .now)) _ (rw w at (i .if1 .left)) in
+    (ap done w ∙ sym e, r .write-secret .ensures ∙ sym (result-writes _ _ (secret (a .pile .now)) (a .out .now) e))
 
 pub join-spec : {M : Type 1} → statement M
 join-spec =
     tie.close
     (tie.spec
-    check-requires
-    enum-told
-    write-secret-requires
-    enum-told-2
-    same-length
+    check-pile-requires
+    enum-known-r
     returns
-    returns-2)
+    enum-told
+    own-deal-requires
+    cast-k
+    cast-w
+    refuse-requires
+    returns-2
+    weights-requires
+    write-secret-requires
+    same-length
+    returns-3)

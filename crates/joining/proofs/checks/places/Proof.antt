@@ -1,14 +1,14 @@
--- `joining::places` meets its contract. The invariant: the table is that of the blocks before block a. Assumes nothing.
+-- `joining::checks::places` meets its contract. The invariant: the table is that of the blocks before block a. Assumes nothing.
 use mathlib.Core.Path.{_≡_, ap, _∙_}
 use mathlib.Core.Logic.{⊎-elim}
 use Prim.Native.Nat.{_+_, _-_, _≤_}
 use native.Mathlib.Omega.{arith}
 use Rattle.pile.specs.Blocks.{blocks}
-use Rattle.joining.proofs.PileLaws.{piece-in}
+use Rattle.joining.proofs.PileLaws.{pieces-in, piece-in}
 use Rattle.joining.proofs.TableLaws.{tableTo, table-start, table-end, turn-kept, turn-new}
 use borrow.Author.Needs.{needs}
-use Rattle.joining.proofs.places.Statement.{statement}
-use Rattle.joining.proofs.places.Tie as tie
+use Rattle.joining.proofs.checks.places.Statement.{statement}
+use Rattle.joining.proofs.checks.places.Tie as tie
 
 abbrev Inv-loop : tie.InvT-loop
 Inv-loop pile end table₀ a₀ table a = (1 ≤ a) × (a ≤ blocks pile + 1) × (table ≡ tableTo pile a)
@@ -31,9 +31,9 @@ unfolding blocks
 piece c =
     let l = c .before .before in
     let d = l .before .before in
-    let p = piece-in (d .args .pile .now) (d .pre) (l .loop .a) (l .loop .inv .0) (omega arith) in
+    let p = piece-in (d .pre) (l .loop .a) (l .loop .inv .0, omega arith) in
     let e = c .word .ensures in
-    (omega (arith, p .0, e), omega (arith, p .1, e))
+    (omega (arith, p .0, e), omega (arith, p .1, e, pieces-in (d .pre) .1))
 
 cast-at : tie.Need-cast-at Inv-loop μ-loop
 cast-at c = search needs

@@ -1,36 +1,39 @@
--- `joining::check_conflict` meets its contract. The invariant: no block below a is contradicted, and the lowest that is lies from a on.
+-- `joining::checks::check_conflict` meets its contract. The invariant: the first block that differs from the first of its piece lies from a on.
 -- Assumes nothing.
 use native.Mathlib.Omega.{arith}
 use borrow.Author.Needs.{needs}
 use mathlib.Core.Path.{_≡_, sym, ap, _∙_}
-use Prim.Native.Nat.{_-_, _≤_}
+use Prim.Native.Nat.{_+_, _-_, _≤_}
 use lib.ListN.{getD}
 use Rattle.answer.specs.Outcome.{refused}
-use Rattle.pile.specs.Blocks.{blocks}
+use Rattle.answer.specs.Places.{firstIn}
+use Rattle.answer.proofs.FirstLaws.{first-hit, first-miss, first-none, found-some, found-none}
+use Rattle.pile.specs.Blocks.{blocks, In}
+use Rattle.joining.specs.Checks.{conflictAt}
 use Rattle.joining.specs.Pile.{pieceAt, placeOf, differIn}
-use Rattle.joining.proofs.PileLaws.{piece-in}
+use Rattle.joining.proofs.PileLaws.{pieces-in, piece-in}
 use Rattle.joining.proofs.TableLaws.{place-at}
-use Rattle.joining.proofs.ConflictLaws.{Seek, seek-start, seek-on, seek-stops, seek-end, place-is}
-use Rattle.joining.proofs.check_conflict.Statement.{statement}
-use Rattle.joining.proofs.check_conflict.Tie as tie
+use Rattle.joining.proofs.ConflictLaws.{firstLike, apart, like-is, by-first, conflict-given, conflict-passes}
+use Rattle.joining.proofs.checks.check_conflict.Statement.{statement}
+use Rattle.joining.proofs.checks.check_conflict.Tie as tie
 
 abbrev Inv-loop : tie.InvT-loop
-Inv-loop pile table end a₀ a = Seek pile a
+Inv-loop pile w table end a₀ a = (1 ≤ a) × (conflictAt pile ≡ firstIn (apart pile) a (blocks pile + 1))
 
 abbrev μ-loop : tie.MeasureT-loop
-μ-loop pile table end a₀ a = end - a
+μ-loop pile w table end a₀ a = end - a
 
-inside : (c : tie.In-loop Inv-loop μ-loop) → (1 ≤ c .before .loop .a) × (c .before .loop .a ≤ blocks (c .before .before .before .args .pile .now))
+inside : (c : tie.In-loop Inv-loop μ-loop) → In (c .before .before .before .args .pile .now) (c .before .loop .a)
 unfolding blocks
-inside c = (c .before .loop .inv .from, omega arith)
+inside c = (c .before .loop .inv .0, omega arith)
 
 piece : (c : tie.After-word Inv-loop μ-loop) → (1 ≤ c .word .result) × (c .word .result ≤ 70)
 piece c =
     let l = c .before .before in
     let d = l .before .before in
-    let p = piece-in (d .args .pile .now) (d .pre .0) (l .loop .a) (inside (c .before) .0) (inside (c .before) .1) in
+    let p = piece-in (d .pre .0) (l .loop .a) (inside (c .before)) in
     let e = c .word .ensures in
-    (omega (arith, p .0, e), omega (arith, p .1, e))
+    (omega (arith, p .0, e), omega (arith, p .1, e, pieces-in (d .pre .0) .1))
 
 -- what the table says of the piece of block a
 place : (c : tie.After-word Inv-loop μ-loop)
@@ -38,13 +41,13 @@ place : (c : tie.After-word Inv-loop μ-loop)
     ≡ placeOf (c .before .before .before .before .args .pile .now) (pieceAt (c .before .before .before .before .args .pile .now) (c .before .before .loop .a))
 place c =
     let d = c .before .before .before .before in
-    place-at (d .args .pile .now) (d .args .table .now) (c .word .result) _ (c .word .ensures) (piece c .0) (piece c .1) (d .pre .1)
+    place-at (d .args .pile .now) (d .args .table .now) (c .word .result) _ (c .word .ensures) (piece c .0) (piece c .1) (d .pre .1 .1)
 
 add-end : tie.Need-add-end Inv-loop μ-loop
 add-end c = omega arith
 
 loop-holds : tie.Need-loop-holds Inv-loop μ-loop
-loop-holds c = seek-start (c .before .args .pile .now)
+loop-holds c = (omega arith, by-first (c .before .args .pile .now))
 
 word-requires : tie.Need-word-requires Inv-loop μ-loop
 word-requires c κs = (inside c .0, inside c .1, omega arith, omega arith)
@@ -66,9 +69,9 @@ differ-in-requires c κs =
     let w = c .before in
     let l = w .before .before in
     let d = l .before .before in
-    let p = place-is (d .args .pile .now) (l .loop .a) (inside (w .before) .0) (inside (w .before) .1) in
+    let p = like-is (d .args .pile .now) (l .loop .a) (inside (w .before)) in
     let e = place w in
-    (d .pre .0, (inside (w .before) .0, inside (w .before) .1, omega (arith, p .0 .from, e), omega (arith, p .0 .to, e)))
+    (d .pre .0, (d .pre .1 .0, (inside (w .before), (omega (arith, p .0 .from, e), omega (arith, p .0 .to, e)))))
 
 refuse-requires : tie.Need-refuse-requires Inv-loop μ-loop
 refuse-requires c κs = search needs
@@ -80,8 +83,9 @@ returns c =
     let l = w .before .before in
     let p = l .before .before .args .pile .now in
     let e = place w in
+    let d = found-some {a = differIn p (l .loop .a) (firstLike p (l .loop .a))} (λ z. t .if1 .taken (t .before .differ-in .ensures ∙ ap (differIn p (l .loop .a)) e ∙ z)) in
     c .refuse .ensures ∙ ap (refused 19 (l .loop .a)) e
-    ∙ seek-stops p (l .loop .a) (inside (w .before) .1) (l .loop .inv) (λ z. t .if1 .taken (t .before .differ-in .ensures ∙ ap (differIn p (l .loop .a)) e ∙ z))
+    ∙ conflict-given p (l .loop .a) (l .loop .inv .0) (l .loop .inv .1 ∙ first-hit (apart p) (l .loop .a) (blocks p + 1) (omega (arith, inside (w .before) .1)) d)
 
 add-a : tie.Need-add-a Inv-loop μ-loop
 add-a c = omega arith
@@ -94,14 +98,15 @@ loop-again c =
     let w = c .before .before .before in
     let l = w .before .before in
     let p = l .before .before .args .pile .now in
-    seek-on p (l .loop .a) (inside (w .before) .1) (l .loop .inv)
-    (sym (c .before .differ-in .ensures ∙ ap (differIn p (l .loop .a)) (place w)) ∙ c .if1 .left)
+    let d = found-none (sym (c .before .differ-in .ensures ∙ ap (differIn p (l .loop .a)) (place w)) ∙ c .if1 .left) in
+    (omega arith, l .loop .inv .1 ∙ first-miss (apart p) (l .loop .a) (blocks p + 1) (omega (arith, inside (w .before) .1)) d)
 
 returns-2 : tie.Need-returns-2 Inv-loop μ-loop
 unfolding blocks
 returns-2 c =
     let l = c .before in
-    seek-end (l .before .before .args .pile .now) (l .loop .a) (c .loop-test .left) (l .loop .inv)
+    let p = l .before .before .args .pile .now in
+    conflict-passes p (l .loop .inv .1 ∙ first-none (apart p) (l .loop .a) (blocks p + 1) (c .loop-test .left))
 
 pub check-conflict-spec : {M : Type 1} → statement M
 check-conflict-spec =

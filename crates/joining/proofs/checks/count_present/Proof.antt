@@ -1,4 +1,4 @@
--- `joining::count_present` meets its contract. The invariant: what is found counts the pieces of 1 to j that the table has.
+-- `joining::checks::count_present` meets its contract. The invariant: what is found counts the pieces of 1 to j that the table has.
 -- Assumes nothing.
 use native.Mathlib.Omega.{arith}
 use mathlib.Core.Path.{_≡_, refl, ap, _∙_}
@@ -8,9 +8,9 @@ use lib.ListN.{length}
 use Rattle.answer.specs.Places.{those}
 use Rattle.answer.proofs.ThoseLaws.{those-few}
 use Rattle.joining.specs.True.{marked}
-use Rattle.joining.proofs.EnoughLaws.{turn-found, turn-missing}
-use Rattle.joining.proofs.count_present.Statement.{statement}
-use Rattle.joining.proofs.count_present.Tie as tie
+use Rattle.joining.proofs.ShortLaws.{turn-found, turn-missing}
+use Rattle.joining.proofs.checks.count_present.Statement.{statement}
+use Rattle.joining.proofs.checks.count_present.Tie as tie
 
 abbrev Inv-loop : tie.InvT-loop
 Inv-loop table k found₀ j₀ found j = (j ≤ k) × (found ≡ length (those (marked table) 1 j))

@@ -1,0 +1,119 @@
+-- `joining::secret::write_column` meets its contract. The invariant: the values of pieces 1 to j stand in front.
+-- Assumes nothing.
+use native.Mathlib.Omega.{arith}
+use mathlib.Core.Path.{_≡_, refl, ap, _∙_}
+use Prim.Native.Nat.{ℕ, _+_, _-_, _≤_}
+use lib.ListN.{length, getD, length-set}
+use Rattle.lists.specs.Run.{run}
+use Rattle.answer.specs.Lent.{over}
+use Rattle.field.specs.Secret.{column}
+use Rattle.pile.specs.Blocks.{In}
+use Rattle.joining.specs.Pile.{placeOf, valueOf, valueAt}
+use Rattle.joining.proofs.PileLaws.{pieces-in, width-in}
+use Rattle.joining.proofs.TableLaws.{place-next, place-most}
+use Rattle.joining.proofs.SecretLaws.{over-on}
+use Rattle.joining.proofs.secret.write_column.Statement.{statement}
+use Rattle.joining.proofs.secret.write_column.Tie as tie
+
+abbrev Inv-loop : tie.InvT-loop
+Inv-loop pile table k i values₀ j₀ values j =
+    (k ≤ 70) × (j ≤ k) × (length values ≡ length values₀) × (values ≡ over (run (λ m. valueAt pile m i) 1 j) values₀)
+
+abbrev μ-loop : tie.MeasureT-loop
+μ-loop pile table k i values₀ j₀ values j = k - j
+
+-- the piece's place: what the table says, and that it is a block
+place : (c : tie.In-loop Inv-loop μ-loop)
+    → getD (c .before .before .before .before .args .table .now) (c .before .loop .j) 0 ≡ placeOf (c .before .before .before .before .args .pile .now) (c .before .loop .j + 1)
+place c =
+    let d = c .before .before .before .before in
+    place-next (d .args .pile .now) (d .args .table .now) (c .before .loop .j) (omega arith) (d .pre .1 .0)
+
+there : (c : tie.In-loop Inv-loop μ-loop)
+    → In (c .before .before .before .before .args .pile .now) (getD (c .before .before .before .before .args .table .now) (c .before .loop .j) 0)
+there c =
+    let d = c .before .before .before .before in
+    let j = c .before .loop .j + 1 in
+    let e = place c in
+    (omega (arith, e, d .pre .0 .place j (omega arith) (omega (arith, d .pre .1 .1 .0))), omega (arith, e, place-most (d .args .pile .now) j))
+
+-- the value's number
+value : (c : tie.In-loop Inv-loop μ-loop) → c .before .before .before .before .args .i ≤ 16
+value c =
+    let d = c .before .before .before .before in
+    omega (arith, d .pre .1 .1 .1 .0 .1, width-in (d .pre .0 .unmixed) .1)
+
+loop-holds : tie.Need-loop-holds Inv-loop μ-loop
+unfolding run over
+loop-holds c =
+    let d = c .before .before in
+    (omega (arith, d .pre .1 .1 .0, pieces-in (d .pre .0 .unmixed) .1), omega arith, refl, refl)
+
+mul-word : tie.Need-mul-word Inv-loop μ-loop
+mul-word c = omega arith
+
+element-copy-out-word : tie.Need-element-copy-out-word Inv-loop μ-loop
+element-copy-out-word c = omega arith
+
+add-word : tie.Need-add-word Inv-loop μ-loop
+add-word c = omega (arith, value (c .before))
+
+word-requires : tie.Need-word-requires Inv-loop μ-loop
+word-requires c κs = (there (c .before) .0, there (c .before) .1, omega arith, omega (arith, value (c .before)))
+
+mul-values : tie.Need-mul-values Inv-loop μ-loop
+mul-values c = omega arith
+
+slice-write-values : tie.Need-slice-write-values Inv-loop μ-loop
+slice-write-values c =
+    let d = c .before .before .before .before .before .before in
+    omega (arith, d .pre .1 .1 .1 .1)
+
+add-j : tie.Need-add-j Inv-loop μ-loop
+add-j c = omega arith
+
+loop-less : tie.Need-loop-less Inv-loop μ-loop
+loop-less c = omega arith
+
+loop-again : tie.Need-loop-again Inv-loop μ-loop
+loop-again c =
+    let t = c .before .before in
+    let l = t .before .loop in
+    let d = t .before .before .before .before in
+    let p = d .args .pile .now in (
+      l .inv .0,
+      omega arith,
+      length-set (l .values) (l .j) (c .word .result) ∙ l .inv .2,
+      over-on (λ m. valueAt p m (d .args .i)) (d .args .values .now) (l .values) (l .j) (c .word .result) (omega (arith, d .pre .1 .1 .1 .1))
+          (c .word .ensures ∙ ap (λ (a : ℕ). valueOf p a (d .args .i)) (place t)) (l .inv .3),
+    )
+
+same-length : tie.Need-same-length Inv-loop μ-loop
+same-length c = c .before .loop .inv .2
+
+returns : tie.Need-returns Inv-loop μ-loop
+unfolding column
+returns c =
+    let l = c .before in
+    let d = l .before .before .before in
+    let all : l .loop .j ≡ d .args .k = omega arith in
+    l .loop .inv .3 ∙ ap (λ (n : ℕ). over (run (λ m. valueAt (d .args .pile .now) m (d .args .i)) 1 n) (d .args .values .now)) all
+
+pub write-column-spec : {M : Type 1} → statement M
+write-column-spec =
+    tie.close
+    (tie.spec
+    Inv-loop
+    μ-loop
+    loop-holds
+    mul-word
+    element-copy-out-word
+    add-word
+    word-requires
+    mul-values
+    slice-write-values
+    add-j
+    loop-less
+    loop-again
+    same-length
+    returns)

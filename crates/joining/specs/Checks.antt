@@ -1,0 +1,48 @@
+-- What the checks of joining say of a pile, whatever it is joined into: a definition for each line, and their order.
+-- Assumes nothing.
+use Prim.Native.Nat.{ℕ}
+use mathlib.Core.Bool.{Bool, not, _&&_, _||_}
+use mathlib.Core.List.{List, [], _∷_, _++_}
+use lib.ListN.{length}
+use lib.Dec.{eqb, ltb}
+use Rattle.answer.specs.declared.Kind.the-variants.{Mixed, Conflict, Short}
+use Rattle.answer.specs.Checks.{Line, line}
+use Rattle.answer.specs.Places.{firstIn, found}
+use Rattle.block.specs.Deals.{sameDeal}
+use Rattle.pile.specs.Blocks.{blocks, dealAt, firstBlock}
+use Rattle.pile.specs.Lines.{tornPile, longPile, everyBlock}
+use Rattle.joining.specs.Pile.{ownDeal, pieceCount, pieceAt, differIn, present}
+
+-- 18 MIXED: the first block that is not of the pile's own deal, or 0
+unfoldable pub mixedAt : List ℕ → ℕ
+mixedAt pile = firstBlock pile (λ a. not (sameDeal (dealAt pile a) (ownDeal pile)))
+
+abbrev pub mixed : List ℕ → Line
+mixed pile = line Mixed (found (mixedAt pile)) (mixedAt pile) 0
+
+-- 19 CONFLICT: block b has the piece of block a with other values
+unfoldable pub contradicts : List ℕ → ℕ → ℕ → Bool
+contradicts pile a b = eqb (pieceAt pile b) (pieceAt pile a) && found (differIn pile a b)
+
+-- the first block before block a that contradicts it, or 0
+unfoldable pub contradictedBy : List ℕ → ℕ → ℕ
+contradictedBy pile a = firstIn (contradicts pile a) 1 a
+
+-- the first block that an earlier one contradicts, or 0
+unfoldable pub conflictAt : List ℕ → ℕ
+conflictAt pile = firstBlock pile (λ a. found (contradictedBy pile a))
+
+abbrev pub conflict : List ℕ → Line
+conflict pile = line Conflict (found (conflictAt pile)) (conflictAt pile) (contradictedBy pile (conflictAt pile))
+
+-- 20 SHORT: no block at all, or fewer pieces than k; how many there are, and k
+abbrev pub short : List ℕ → Line
+short pile = line Short (eqb (blocks pile) 0 || ltb (length (present pile)) (pieceCount pile)) (length (present pile)) (pieceCount pile)
+
+-- the lines over the whole pile, after those of its blocks
+abbrev pub wholeLines : List ℕ → List Line
+wholeLines pile = mixed pile ∷ conflict pile ∷ short pile ∷ []
+
+-- all lines of a pile, in order
+unfoldable pub pileLines : List ℕ → List Line
+pileLines pile = tornPile pile ∷ longPile pile ∷ everyBlock pile ++ wholeLines pile

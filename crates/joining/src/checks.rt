@@ -1,0 +1,158 @@
+// The checks of a pile in their order: TORN, LONG, those of its blocks, MIXED, CONFLICT and SHORT. None looks at what it is joined into.
+use answer::Answer;
+use answer::Kind;
+use block::DealWords;
+ghost use mathlib.Core.Path.{_≡_};
+ghost use mathlib.Core.List.{[], _∷_};
+ghost use Prim.Native.Nat.{_≤_};
+ghost use lib.ListN.{length};
+ghost use Rattle.lists.specs.Run.{run};
+ghost use Rattle.answer.specs.Outcome.{outcome, done};
+ghost use Rattle.answer.specs.Checks.{firstFail};
+ghost use Rattle.answer.specs.Places.{those};
+ghost use Rattle.pile.specs.Blocks.{blocks, In, TrueBlocks};
+ghost use Rattle.joining.specs.Pile.{ownDeal, width, placeOf, differIn};
+ghost use Rattle.joining.specs.Checks.{mixedAt, conflict, wholeLines, pileLines};
+ghost use Rattle.joining.specs.True.{Unmixed, marked};
+
+// The pile's own deal.
+pub fn own_deal(pile: &[u8]) -> DealWords
+    requires { ⌜ 1 ≤ blocks (now pile) ⌝ }
+    ensures { λ r. ⌜ r ≡ ownDeal (now (pile .entry)) ⌝ }
+{
+    pile::deal_at(pile, 1)
+}
+
+// The first block of another deal than the pile's own, or 0.
+fn mixed_at(pile: &[u8], own: DealWords) -> usize
+    requires { ⌜ own ≡ ownDeal (now pile) ⌝ }
+    ensures { λ r. ⌜ r ≡ mixedAt (now (pile .entry)) ⌝ }
+{
+    let end = pile.len() / 512 + 1;
+    let mut a: usize = 1;
+    while a < end {
+        let here = pile::deal_at(pile, a);
+        let same = block::same_deal(here, own);
+        if same {
+            a += 1;
+        } else {
+            return a;
+        }
+    }
+    0
+}
+
+// The first block of each piece, or 0 where it is missing: that of piece j at j - 1.
+pub fn places(pile: &[u8]) -> [usize; 70]
+    requires { ⌜ Unmixed (now pile) ⌝ }
+    ensures { λ r. ⌜ r ≡ run (placeOf (now (pile .entry))) 1 70 ⌝ }
+{
+    let end = pile.len() / 512 + 1;
+    let mut table = [0usize; 70];
+    let mut a: usize = 1;
+    while a < end {
+        let at = pile::word(pile, a, 7) as usize - 1;
+        if table[at] == 0 {
+            table[at] = a;
+        }
+        a += 1;
+    }
+    table
+}
+
+// The first of the values 1 to w in which blocks a and b differ, or 0.
+fn differ_in(pile: &[u8], w: usize, a: usize, b: usize) -> usize
+    requires { ⌜ Unmixed (now pile) ⌝ }
+    requires { ⌜ w ≡ width (now pile) ⌝ }
+    requires { ⌜ In (now pile) a × In (now pile) b ⌝ }
+    ensures { λ r. ⌜ r ≡ differIn (now (pile .entry)) a b ⌝ }
+{
+    let end = w + 1;
+    let mut i: usize = 1;
+    while i < end {
+        if pile::word(pile, a, 7 + i) != pile::word(pile, b, 7 + i) {
+            return i;
+        }
+        i += 1;
+    }
+    0
+}
+
+// Each block against the first block of its piece: that settles CONFLICT over all pairs.
+fn check_conflict(pile: &[u8], w: usize, table: &[usize; 70]) -> Answer
+    requires { ⌜ Unmixed (now pile) ⌝ }
+    requires { ⌜ w ≡ width (now pile) ⌝ }
+    requires { ⌜ now table ≡ run (placeOf (now pile)) 1 70 ⌝ }
+    ensures { λ r. ⌜ outcome r ≡ firstFail (conflict (now (pile .entry)) ∷ []) (done 0) ⌝ }
+{
+    let end = pile.len() / 512 + 1;
+    let mut a: usize = 1;
+    while a < end {
+        let at = pile::word(pile, a, 7) as usize - 1;
+        let b = table[at];
+        if differ_in(pile, w, a, b) != 0 {
+            return answer::refuse(Kind::Conflict, a, b);
+        }
+        a += 1;
+    }
+    Answer::Done(0)
+}
+
+// How many of the pieces 1 to k are present.
+fn count_present(table: &[usize; 70], k: usize) -> usize
+    requires { ⌜ k ≤ 70 ⌝ }
+    ensures { λ r. ⌜ r ≡ length (those (marked (now (table .entry))) 1 k) ⌝ }
+{
+    let mut found: usize = 0;
+    let mut j: usize = 0;
+    while j < k {
+        if table[j] != 0 {
+            found += 1;
+        }
+        j += 1;
+    }
+    found
+}
+
+// MIXED, CONFLICT and SHORT of a pile of true blocks, one at least.
+fn check_whole(pile: &[u8]) -> Answer
+    requires { ⌜ 1 ≤ blocks (now pile) ⌝ }
+    requires { ⌜ TrueBlocks (now pile) ⌝ }
+    ensures { λ r. ⌜ outcome r ≡ firstFail (wholeLines (now (pile .entry))) (done 0) ⌝ }
+{
+    let own = own_deal(pile);
+    let other = mixed_at(pile, own);
+    if other != 0 {
+        return answer::refuse(Kind::Mixed, other, 0);
+    }
+    let table = places(pile);
+    let w = own.width as usize;
+    if let Answer::Refused(r) = check_conflict(pile, w, &table) {
+        return Answer::Refused(r);
+    }
+    let k = own.pieces as usize;
+    let here = count_present(&table, k);
+    if here < k {
+        return answer::refuse(Kind::Short, here, k);
+    }
+    Answer::Done(0)
+}
+
+// All checks of a pile. One of no blocks is SHORT with 0 and 0.
+pub fn check_pile(pile: &[u8]) -> Answer
+    ensures { λ r. ⌜ outcome r ≡ firstFail (pileLines (now (pile .entry))) (done 0) ⌝ }
+{
+    if pile.len() % 512 != 0 {
+        return answer::refuse(Kind::Torn, 0, 0);
+    }
+    if 560 < pile.len() / 512 {
+        return answer::refuse(Kind::Long, 0, 0);
+    }
+    if let Answer::Refused(r) = pile::check_blocks(pile) {
+        return Answer::Refused(r);
+    }
+    if pile.len() == 0 {
+        return answer::refuse(Kind::Short, 0, 0);
+    }
+    check_whole(pile)
+}
