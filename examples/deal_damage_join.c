@@ -1,5 +1,5 @@
 /* Deals to four custodians, damages a card and joins: what the unit does with a good pile, a short one and a dirty one.
- *   rt staticlib unit && cc -I include examples/deal_damage_join.c target/staticlib/libunit.a -o target/example && target/example
+ *   rt staticlib titmeadow && cc -I include examples/deal_damage_join.c target/staticlib/libtitmeadow.a -o target/example && target/example
  * It prints its four answers and ends with status 0 where they are those that document 01 gives. */
 #include <stdio.h>
 #include <string.h>

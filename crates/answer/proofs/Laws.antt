@@ -2,7 +2,6 @@
 use Rattle.answer.specs.Laws as law
 use Rattle.answer.proofs.OneLaws as one
 use Rattle.answer.proofs.CheckLaws as check
-use Rattle.answer.proofs.FirstLaws as first
 use Rattle.answer.proofs.LentLaws as lent
 
 pub number-one : law.NumberOne
@@ -19,12 +18,6 @@ passed-done A = check.passed-done
 
 pub refused-by : law.RefusedBy
 refused-by A = check.refused-by
-
-pub first-means : law.FirstMeans
-first-means test i e k l h q = first.first-of test i e k l h q .0
-
-pub none-means : law.NoneMeans
-none-means = first.none-in
 
 pub refusal-keeps : law.RefusalKeeps
 refusal-keeps A = lent.refusal-keeps

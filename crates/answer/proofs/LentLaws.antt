@@ -1,15 +1,13 @@
 -- A lent list that is too short or is not, and what is left of it by the outcome; and a list that is written over the front of another, number by number.
 -- Assumes nothing.
-use mathlib.Core.Path.{_≡_, refl, sym, ap, _∙_}
-use mathlib.Core.List.{List, [], _∷_, _++_}
-use native.Mathlib.Omega.{arith}
-use Prim.Native.Nat.{ℕ, suc, _≤_, _<_}
-use lib.ListN.{length, getD, set, drop, length-append}
-use lib.Seq.{drop-cons, set-at, append-snoc}
+use mathlib.Core.Path.{_≡_, ap}
+use mathlib.Core.List.{List, [], _∷_}
+use Prim.Native.Nat.{ℕ, _≤_, _<_}
 use borrow.Author.Tests.{lt-ltb, le-ltb}
 use Rattle.answer.specs.Outcome.{Outcome, done, refused}
 use Rattle.answer.specs.Checks.{firstFail}
-use Rattle.answer.specs.Lent.{noRoom, over, left}
+use Rattle.answer.specs.Lent.{noRoom, left}
+use Rattle.lists.specs.Over.{over}
 
 -- ---- ROOM alone
 pub room-refused : {A : Type 0} (needed a room : ℕ) (end : Outcome A) → room < needed → firstFail (noRoom needed a room ∷ []) end ≡ refused 12 a 0
@@ -27,11 +25,3 @@ refusal-keeps {A} o m a b new old e = ap (λ (x : Outcome A). left x new old) e
 
 pub result-writes : {A : Type 0} (o : Outcome A) (v : A) (new old : List ℕ) → o ≡ done v → left o new old ≡ over new old
 result-writes {A} o v new old e = ap (λ (x : Outcome A). left x new old) e
-
--- one number more, behind those that are written
-pub over-more : (new old : List ℕ) (v : ℕ) → length new < length old → set (over new old) (length new) v ≡ over (new ++ v ∷ []) old
-unfolding over
-over-more new old v h =
-    let s : length (new ++ v ∷ []) ≡ suc (length new) = omega (arith, length-append new (v ∷ [])) in
-    let rest = drop (suc (length new)) old in
-    rw (s, drop-cons old (length new) 0 h) (set-at new (getD old (length new) 0) rest v (length new) refl ∙ sym (append-snoc new v rest))

@@ -1,9 +1,5 @@
-pub mod Truth
 pub mod OneLaws
 pub mod CheckLaws
 pub mod SaysLaws
-pub mod FirstLaws
-pub mod AheadLaws
-pub mod ThoseLaws
 pub mod LentLaws
 pub mod Laws

@@ -2,14 +2,14 @@
 -- Assumes nothing.
 use mathlib.Core.Path.{_≡_}
 use mathlib.Core.List.{List, List·Memᴰ}
-use mathlib.Core.Bool.{Bool, true, false}
-use Prim.Native.Nat.{ℕ, _≤_, _<_}
+use mathlib.Core.Bool.{true, false}
+use Prim.Native.Nat.{ℕ}
 use Rattle.answer.specs.declared.Kind.{Kind}
 use Rattle.answer.specs.declared.Answer.{Answer}
 use Rattle.answer.specs.Outcome.{Outcome, done, refused, number, outcome}
 use Rattle.answer.specs.Checks.{Line, firstFail}
-use Rattle.answer.specs.Places.{firstIn}
-use Rattle.answer.specs.Lent.{over, left}
+use Rattle.lists.specs.Over.{over}
+use Rattle.answer.specs.Lent.{left}
 
 -- Two kinds with one number are one kind.
 abbrev pub NumberOne : Type 0
@@ -42,20 +42,6 @@ PassedDone = (A : Type 0) (ls : List Line) (end : Outcome A) → Passed ls → f
 -- A refusal is that of one of the lines: a call gives no refusal that its list does not name.
 abbrev pub RefusedBy : Type 1
 RefusedBy = (A : Type 0) (ls : List Line) (v : A) (m a b : ℕ) → firstFail ls (done v) ≡ refused m a b → By ls m a b
-
--- f is the first of the places from i up to, not including, e with the test
-pub record IsFirst (test : ℕ → Bool) (i e f : ℕ) : Type 0 where
-  pub from : i ≤ f
-  pub to : f < e
-  pub has : test f ≡ true
-  pub least : (k : ℕ) → i ≤ k → k < f → test k ≡ false
-
--- `firstIn` is the first place with the test, and 0 only where no place has it.
-abbrev pub FirstMeans : Type 0
-FirstMeans = (test : ℕ → Bool) (i e k : ℕ) → i ≤ k → k < e → test k ≡ true → IsFirst test i e (firstIn test i e)
-
-abbrev pub NoneMeans : Type 0
-NoneMeans = (test : ℕ → Bool) (i e : ℕ) → 1 ≤ i → firstIn test i e ≡ 0 → (k : ℕ) → i ≤ k → k < e → test k ≡ false
 
 -- "A refusal changes nothing lent."
 abbrev pub RefusalKeeps : Type 1

@@ -1,5 +1,4 @@
 pub mod Outcome
 pub mod Checks
-pub mod Places
 pub mod Lent
 pub mod Laws

@@ -14,13 +14,17 @@ use lib.ListN.{length}
 use borrow.Author.Tests.{eqb-true, eqb-false, eq-eqb, ne-eqb}
 use Rattle.answer.specs.Outcome.{done, refused}
 use Rattle.answer.specs.Checks.{firstFail}
+use Rattle.prime.proofs.Prime.{cancel-small}
 use Rattle.block.specs.Words.{wordAt, putAt, weighted, checkOf, Small}
 use Rattle.block.specs.Layout.{headerOf}
 use Rattle.block.specs.Open.{header, opening, TrueBlock}
 use Rattle.block.proofs.WordLaws.{length-put, word-put-same, word-put-other}
 use Rattle.block.proofs.SumLaws.{check-same, one-differs}
-use Rattle.block.proofs.PrimeLaws.{cancel, add-cancel}
 use Rattle.block.proofs.OpenLaws.{small-of, of-small, slots-unread, slots-check, opening-block}
+
+-- equal sums with equal remainders on the left have equal remainders on the right
+add-cancel : (s t x y : ℕ) → s % 32749 ≡ t % 32749 → s + x ≡ t + y → x % 32749 ≡ y % 32749
+add-cancel s t x y e h = omega arith
 
 same-or-not : (k i : ℕ) → (k ≡ i) ⊎ (k ≢ i)
 same-or-not k i = go (eqb k i) refl
@@ -58,7 +62,7 @@ module _ (b c : List ℕ) (i : ℕ) (from : 1 ≤ i) (to : i ≤ 256)
       e ∙ same 256 (omega arith) (omega arith) (λ q. omega arith) ∙ sym (true-b .sum) in
       let sums = one-differs (wordAt b) (wordAt c) i 255 from h (λ k l m ne. same k l (omega arith) ne) in
       let r = add-cancel (weighted (wordAt c) 255) (weighted (wordAt b) 255) (i * wordAt b i) (i * wordAt c i) agree sums in
-      other (sym (cancel i (wordAt b i) (wordAt c i) from (omega arith) (true-b .clean .small i from to) low r))
+      other (sym (cancel-small i (wordAt b i) (wordAt c i) from (omega arith) (true-b .clean .small i from to) low r))
 
   in-the-check : i ≡ 256 → checkOf c ≢ wordAt c 256
   in-the-check q e =
@@ -152,7 +156,7 @@ module _ (b c : List ℕ) (i j : ℕ) (from : 1 ≤ i) (order : i < j) (to : j �
       let y = wordAt b j in
       let r = add-cancel (weighted (wordAt c) 255) (weighted (wordAt b) 255) ((j - i) * y) ((j - i) * x) agree apart in
       other
-      (sym (cancel (j - i) y x (omega arith) (omega arith)
+      (sym (cancel-small (j - i) y x (omega arith) (omega arith)
       (true-b .clean .small j (omega arith) (omega arith)) (true-b .clean .small i from (omega arith)) r))
 
 -- the two stores of an exchange

@@ -1,10 +1,9 @@
 -- Two blocks are of one deal exactly where the words that say so are the same. Assumes nothing.
-use mathlib.Core.Path.{_≡_, refl, ap}
+use mathlib.Core.Path.{_≡_, refl}
 use mathlib.Core.Bool.{true, false, _&&_}
-use Prim.Native.Nat.{ℕ}
 use lib.Dec.{eqb}
 use borrow.Author.Tests.{eqb-true, eq-eqb}
-use Rattle.answer.proofs.Truth.{both, isn't}
+use Rattle.lists.proofs.Truth.{both, isn't}
 use Rattle.block.specs.declared.deal.DealWords.{DealWords}
 use Rattle.block.specs.Deals.{sameDeal}
 

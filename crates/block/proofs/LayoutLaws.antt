@@ -3,16 +3,16 @@
 use mathlib.Core.Path.{_≡_, refl, sym, ap, ap₂, _∙_}
 use mathlib.Core.Bool.{Bool, true, false, not, _&&_}
 use mathlib.Core.List.{List}
-use Prim.Native.Nat.{ℕ, zero, suc, _+_, _-_, _≤_, _<_}
+use Prim.Native.Nat.{ℕ, zero, suc, _+_, _-_, _≤_}
 use native.Mathlib.Decide.{decLe}
 use native.Mathlib.Omega.{arith}
 use lib.Dec.{eqb}
 use lib.ListN.{getD, length, List·getD-eq-default}
 use borrow.Author.Tests.{eqb-true, eq-eqb, ne-eqb, not-false}
 use Rattle.lists.proofs.RunLaws.{run-length, run-at}
-use Rattle.answer.specs.Places.{firstIn}
-use Rattle.answer.proofs.Truth.{both, and-all}
-use Rattle.answer.proofs.FirstLaws.{first-none, first-all, none-in, skip, first-same}
+use Rattle.lists.specs.Places.{firstIn}
+use Rattle.lists.proofs.Truth.{both, and-all}
+use Rattle.lists.proofs.FirstLaws.{first-none, first-all, none-in, skip, first-same}
 use Rattle.block.specs.declared.Label.{Label}
 use Rattle.block.specs.Words.{wordAt}
 use Rattle.block.specs.Layout.{widthOf, heldAt, rangeAt, Ranged, labelOf, valuesOf, rightAt, filled, firstWrong, Layout}

@@ -1,6 +1,5 @@
 pub mod WordLaws
 pub mod SumLaws
-pub mod PrimeLaws
 pub mod DealLaws
 pub mod LayoutLaws
 pub mod RangeLaws

@@ -10,9 +10,9 @@ use lib.Dec.{eqb, ltb}
 use lib.ListN.{length, getD, List·getD-eq-default}
 use Rattle.answer.specs.declared.Kind.the-variants.{Unread, Check, Header}
 use Rattle.answer.specs.Checks.{line}
-use Rattle.answer.specs.Places.{found}
+use Rattle.lists.specs.Places.{found}
 use Rattle.answer.specs.Laws.{Passed}
-use Rattle.answer.proofs.FirstLaws.{first-same}
+use Rattle.lists.proofs.FirstLaws.{first-same}
 use Rattle.block.specs.declared.Label.{Label}
 use Rattle.block.specs.Words.{wordAt, checkOf}
 use Rattle.block.specs.Layout.{headerOf, widthOf, heldAt, rangeAt, labelOf, valuesOf, rightAt, firstWrong}

@@ -14,10 +14,10 @@ use Rattle.answer.specs.declared.Answer.{Answer}
 use Rattle.answer.specs.declared.Answer.the-variants.{Done, Refused as Answer-Refused}
 use Rattle.answer.specs.Outcome.{Outcome, done, refused, number, outcome}
 use Rattle.answer.specs.Checks.{Line, firstFail}
-use Rattle.answer.specs.Places.{found}
+use Rattle.lists.specs.Places.{found}
 use Rattle.answer.specs.Laws.{Passed, By}
 use Rattle.answer.proofs.CheckLaws.{given, not-given, passed, passed-one, passed-none, passed-done, done-passed, same-refusal, refused-by}
-use Rattle.answer.proofs.FirstLaws.{first-all, none-in, below-end, found-some, found-none, some-found, none-found}
+use Rattle.lists.proofs.FirstLaws.{first-all, none-in, below-end, found-some, found-none, some-found, none-found}
 use Rattle.block.specs.declared.Words.{Words}
 use Rattle.block.specs.declared.Opened.the-variants.{Head, Refused}
 use Rattle.block.specs.Words.{wordAt, checkOf, Small}

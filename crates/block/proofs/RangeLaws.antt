@@ -8,7 +8,7 @@ use native.Mathlib.Nat.{pos-of-ne-zero}
 use native.Mathlib.Omega.{arith}
 use lib.Dec.{eqb, leb}
 use borrow.Author.Tests.{leb-true, le-leb, eqb-false, ne-eqb}
-use Rattle.answer.proofs.Truth.{both, not-so}
+use Rattle.lists.proofs.Truth.{both, not-so}
 use Rattle.block.specs.declared.Label.{Label}
 use Rattle.block.specs.Layout.{within, rangeAt, Ranged, labelOf}
 use Rattle.block.specs.Open.{TrueBlock}

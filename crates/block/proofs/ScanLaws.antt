@@ -5,8 +5,8 @@ use mathlib.Core.List.{List}
 use Prim.Native.Nat.{ℕ, _+_, _-_, _*_, _%_, _≤_, _<_}
 use native.Mathlib.Omega.{arith}
 use borrow.Author.Tests.{lt-ltb, le-ltb, eq-eqb, ne-eqb}
-use Rattle.answer.specs.Places.{firstIn}
-use Rattle.answer.proofs.FirstLaws.{first-hit, first-miss, first-none}
+use Rattle.lists.specs.Places.{firstIn}
+use Rattle.lists.proofs.FirstLaws.{first-hit, first-miss, first-none}
 use Rattle.block.specs.Words.{wordAt, weighted, checkOf}
 use Rattle.block.specs.Open.{above, firstAbove, cleanCheck}
 use Rattle.block.proofs.SumLaws.{weighted-step}

@@ -7,7 +7,7 @@ use native.Mathlib.Nat.{le-of-eq}
 use native.Mathlib.Omega.{arith}
 use lib.ListN.{length, getD, take, drop, drop-of-length-le, length-drop}
 use lib.Seq.{take-suc, take-all, length-take-le}
-use Rattle.answer.specs.Lent.{over}
+use Rattle.lists.specs.Over.{over}
 use Rattle.block.specs.declared.Label.{Label}
 use Rattle.block.specs.Words.{wordAt, putAt, bytesOf, weighted, checkOf}
 use Rattle.block.specs.Layout.{heldAt}

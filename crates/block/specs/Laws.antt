@@ -1,6 +1,6 @@
 -- The laws that this room owes; their proofs are in proofs/Laws.antt.
 -- Assumes nothing.
-use Prim.Native.Nat.{ℕ, _+_, _-_, _*_, _≤_, _<_}
+use Prim.Native.Nat.{ℕ, _+_, _*_, _≤_, _<_}
 use mathlib.Core.Path.{_≡_}
 use mathlib.Core.Bool.{true}
 use mathlib.Core.Logic.{_≢_, _↔_}
@@ -15,7 +15,7 @@ use Rattle.block.specs.declared.Opened.{Opened}
 use Rattle.block.specs.Words.{wordAt, putAt, bytesOf}
 use Rattle.block.specs.Deals.{sameDeal}
 use Rattle.block.specs.Layout.{headerOf, widthOf, heldAt, Ranged, labelOf, valuesOf}
-use Rattle.block.specs.Open.{blockLines, opening, valueBytes, valueStart, wordsOf, opened, TrueBlock}
+use Rattle.block.specs.Open.{blockLines, opening, valueBytes, valueStart, opened, TrueBlock}
 use Rattle.block.specs.Written.{blockBytes, Buildable}
 
 -- The ranges of a label, as inequalities.

@@ -7,7 +7,7 @@ use mathlib.Core.List.{List, [], _∷_}
 use lib.Dec.{leb, eqb}
 use lib.ListN.{getD}
 use Rattle.lists.specs.Run.{run}
-use Rattle.answer.specs.Places.{firstIn}
+use Rattle.lists.specs.Places.{firstIn}
 use Rattle.block.specs.declared.Label.{Label}
 use Rattle.block.specs.Words.{wordAt}
 use Rattle.block.specs.Deals.{dealWords}
@@ -78,10 +78,6 @@ firstWrong b = firstIn (λ i. not (rightAt b i)) 1 256
 pub record Layout (b : List ℕ) : Type 0 where
   pub word : (i : ℕ) → 1 ≤ i → i ≤ 255 → wordAt b i ≡ heldAt (labelOf b) (valuesOf b) i
   pub ranged : Ranged (labelOf b)
-
--- the words that say which deal a block is of
-abbrev pub dealOf : List ℕ → List ℕ
-dealOf b = wordAt b 2 ∷ wordAt b 4 ∷ wordAt b 5 ∷ wordAt b 6 ∷ []
 
 -- word i is not 0
 abbrev pub filled : List ℕ → ℕ → Bool

@@ -9,7 +9,8 @@ use lib.Dec.{eqb, ltb}
 use Rattle.answer.specs.declared.Kind.the-variants.{Torn, Unread, Check, Header}
 use Rattle.answer.specs.Outcome.{Outcome, done, refused, number}
 use Rattle.answer.specs.Checks.{Line, line, firstFail}
-use Rattle.answer.specs.Places.{firstIn, found}
+use Rattle.lists.specs.Places.{firstIn, found}
+use Rattle.prime.specs.Prime.{tooLarge}
 use Rattle.block.specs.Words.{wordAt, checkOf, Small}
 use Rattle.block.specs.Layout.{headerOf, widthOf, firstWrong, Layout}
 use Rattle.block.specs.declared.Words.{Words}
@@ -18,7 +19,7 @@ use Rattle.block.specs.declared.Opened.the-variants.{Head, Refused}
 
 -- "a word above 32748"
 abbrev pub above : List ℕ → ℕ → Bool
-above b i = ltb 32748 (wordAt b i)
+above b i = tooLarge (wordAt b i)
 
 -- the first of the 256 words that is above 32748, or 0
 unfoldable pub firstAbove : List ℕ → ℕ

@@ -11,7 +11,7 @@ ghost use Prim.Native.Nat.{_+_, _≤_};
 ghost use lib.ListN.{length};
 ghost use Rattle.answer.specs.Outcome.{outcome, done};
 ghost use Rattle.answer.specs.Checks.{firstFail};
-ghost use Rattle.answer.specs.Places.{firstIn};
+ghost use Rattle.lists.specs.Places.{firstIn};
 ghost use Rattle.block.specs.Layout.{headerOf, within, rightAt, filled, firstWrong};
 ghost use Rattle.block.specs.Open.{firstAbove, cleanCheck, slotLines, blockLines, opening, valueBytes, valueStart, wordsOf, opened};
 

@@ -5,7 +5,7 @@ ghost use mathlib.Core.Path.{_≡_};
 ghost use mathlib.Core.List.{_++_};
 ghost use Prim.Native.Nat.{_+_, _-_, _*_, _≤_};
 ghost use lib.ListN.{length, take, drop};
-ghost use Rattle.answer.specs.Lent.{over};
+ghost use Rattle.lists.specs.Over.{over};
 ghost use Rattle.block.specs.Words.{putAt};
 ghost use Rattle.block.specs.Layout.{heldAt};
 ghost use Rattle.block.specs.Written.{blockBytes, Buildable};

@@ -8,19 +8,21 @@ use lib.ListN.{length}
 use Rattle.lists.specs.Run.{run}
 use Rattle.answer.specs.Outcome.{done, refused}
 use Rattle.answer.specs.Checks.{firstFail}
-use Rattle.answer.specs.Places.{firstFrom, firstPlace, those}
+use Rattle.lists.specs.Places.{firstFrom, firstPlace, those}
 use Rattle.answer.specs.Lent.{noRoom}
 use Rattle.field.specs.Poly.{value}
 use Rattle.field.specs.Pieces.{values as valuesIn}
-use Rattle.planning.specs.Sets.{each, inside, member, stranger}
+use Rattle.lists.specs.Some.{each, some}
+use Rattle.planning.specs.Sets.{inside, member, stranger}
 use Rattle.planning.specs.Groups as planning
-use Rattle.planning.specs.Groups.{some, authorised, tight, maximalBy, groupsBy, holds}
+use Rattle.planning.specs.Groups.{authorised, tight, maximalBy, groupsBy, holds}
 use Rattle.planning.specs.Planned.{people, long, strangers, nobody, opens, clashPlace, clash, wide, listLines, planLines}
 use Rattle.block.specs.Words.{wordAt, bytesOf, weighted, checkOf}
 use Rattle.block.specs.Layout.{heldAt, rangeAt, valuesOf, rightAt, firstWrong}
 use Rattle.block.specs.Open.{firstAbove}
 use Rattle.block.specs.Written.{body, blockBytes}
-use Rattle.dealing.specs.Deal.{blockFor, flat, pieceCount, held, card}
+use Rattle.dealing.specs.Deal.{blockFor, pieceCount, held, card}
+use Rattle.lists.specs.Flat.{flat}
 use Rattle.dealing.specs.Dealt.{badNumber, badHolder, badWidth, badSecret, badCount, badRandom, inputLines, blockCount, dealLines, dealing, Made}
 use Rattle.dealing.proofs.Laws as law
 use Rattle.pile.specs.Blocks.{blocks, restFrom}

@@ -2,14 +2,15 @@
 -- Assumes nothing.
 use mathlib.Core.Path.{_≡_, refl}
 use Rattle.answer.specs.Checks.{firstFail}
-use Rattle.answer.specs.Places.{firstFrom, firstPlace, those}
-use Rattle.planning.specs.Sets.{member, each, inside, stranger}
-use Rattle.planning.specs.Groups.{some, authorised, tight, maximalBy, groupsBy, holds}
+use Rattle.lists.specs.Places.{firstFrom, firstPlace, those}
+use Rattle.planning.specs.Sets.{member, inside, stranger}
+use Rattle.lists.specs.Some.{each, some}
+use Rattle.planning.specs.Groups.{authorised, tight, maximalBy, groupsBy, holds}
 use Rattle.planning.specs.Planned.{people, long, strangers, nobody, opens, clashPlace, clash, wide, listLines, planLines, planned}
 use Rattle.print.specs.Decimal.{digits}
 use Rattle.print.specs.Lines.{spaced, spacedAll}
 use Rattle.policy.specs.Policy.{lines, begins, oneDigit, peopleIn, members, lineSays, requiredIn, forbiddenIn, badAt, badLine, policyIn, readPolicy}
-use Rattle.text.specs.Listing.{label, firstLine, pieceLine, holderLine, rising, listingBy, listing, listedPlan, listed}
+use Rattle.listing.specs.Listing.{label, firstLine, pieceLine, holderLine, rising, listingBy, listing, listedPlan, listed}
 use Rattle.cases.specs.Plain.{bytes, textOf}
 use Rattle.cases.specs.Table.{text1, printed1}
 

@@ -4,12 +4,14 @@ use mathlib.Core.Path.{refl, _∙_, ap}
 use mathlib.Core.List.{_++_}
 use lib.ListN.{length, drop}
 use Rattle.answer.specs.Checks.{firstFail}
-use Rattle.answer.specs.Places.{firstFrom, firstPlace, those}
+use Rattle.lists.specs.Places.{firstFrom, firstPlace, those}
 use Rattle.field.specs.Poly.{value}
 use Rattle.lists.specs.Run.{run}
-use Rattle.field.specs.Joined.{joined, joinedIn, diffs, minus}
-use Rattle.planning.specs.Sets.{member, each, inside, stranger, marks}
-use Rattle.planning.specs.Groups.{some, authorised, tight, maximalBy, groupsBy, holds, held, rowsOf}
+use Rattle.field.specs.Joined.{joined, joinedIn, diffs}
+use Rattle.prime.specs.Prime.{minus}
+use Rattle.planning.specs.Sets.{member, inside, stranger, marks}
+use Rattle.lists.specs.Some.{each, some}
+use Rattle.planning.specs.Groups.{authorised, tight, maximalBy, groupsBy, holds, held, rowsOf}
 use Rattle.planning.specs.Planned.{people, long, strangers, nobody, opens, clashPlace, clash, wide, listLines, planLines, planned, plannedRows}
 use Rattle.dealing.proofs.Laws as dealing
 use Rattle.joining.proofs.Laws as joining

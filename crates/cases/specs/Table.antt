@@ -16,7 +16,7 @@ use Rattle.block.specs.Words.{bytesOf}
 use Rattle.dealing.specs.Deal.{Deal, dealFrom, card}
 use Rattle.dealing.specs.Dealt.{dealing, dealtInto}
 use Rattle.joining.specs.Joined.{joining, joinedInto}
-use Rattle.text.specs.Listing.{listed}
+use Rattle.listing.specs.Listing.{listed}
 use Rattle.cases.specs.Plain.{set, textOf, Accepted}
 
 -- the policy of P1: four people, these sets required, the last one forbidden

@@ -7,16 +7,18 @@ use mathlib.Core.List.{List, [], _∷_, _++_, map, append-nil, append-assoc, map
 use native.Mathlib.Omega.{arith}
 use lib.ListN.{length, getD, take, drop, length-append, length-drop}
 use lib.Seq.{drop-drop, take-at, drop-at, length-take-le}
-use Rattle.answer.specs.Places.{those}
-use Rattle.answer.specs.Lent.{over}
-use Rattle.answer.proofs.ThoseLaws.{those-miss, those-hit, count-miss, count-hit, those-few, those-more}
+use Rattle.lists.proofs.FlatLaws.{flat-append, flat-map}
+use Rattle.lists.specs.Places.{those}
+use Rattle.lists.specs.Over.{over}
+use Rattle.lists.proofs.ThoseLaws.{those-miss, those-hit, count-miss, count-hit, those-few, those-more}
 use Rattle.field.specs.Pieces.{values}
 use Rattle.field.proofs.ValuesLaws.{values-length, values-below}
 use Rattle.planning.specs.Groups.{marked}
 use Rattle.block.specs.Written.{blockBytes, Buildable}
 use Rattle.block.proofs.BodyLaws.{length-block, builds}
 use Rattle.dealing.specs.declared.Asked.{Asked}
-use Rattle.dealing.specs.Deal.{labelFor, blockFor, flat}
+use Rattle.dealing.specs.Deal.{labelFor, blockFor}
+use Rattle.lists.specs.Flat.{flat}
 use Rattle.dealing.specs.Rows.{Ready, heldIn}
 
 -- ---- the pieces held, row by row; rows count from 0
@@ -75,15 +77,6 @@ ready-builds {asked} {k} {secret} {random} r j vs l u e =
     (sym (ap length e ∙ values-length (k - 1) secret random j))
 
 -- ---- blocks one after another
-pub flat-append : (xs ys : List (List ℕ)) → flat (xs ++ ys) ≡ flat xs ++ flat ys
-unfolding flat
-flat-append [] ys = refl
-flat-append (x ∷ xs) ys = rw (flat-append xs ys, append-assoc)
-
-pub flat-size : (f : ℕ → List ℕ) → ((j : ℕ) → length (f j) ≡ 512) → (l : List ℕ) → length (flat (map f l)) ≡ 512 * length l
-unfolding flat
-flat-size f e [] = refl
-flat-size f e (j ∷ l) = length-append (f j) (flat (map f l)) ∙ omega (arith, e j, flat-size f e l)
 
 -- the next block, written behind those that are laid
 lay : (c b old now : List ℕ) (at : ℕ) → length c ≡ at → now ≡ over c old → take at now ++ over b (drop at now) ≡ over (c ++ b) old
@@ -154,7 +147,7 @@ module _ {block : ℕ → List ℕ} {rows : List (List Bool)} {holder k : ℕ} {
     pub laid-take : (next : List ℕ) → next ≡ take at now ++ over (block (c + 1)) (drop at now) → Laid block rows holder k old next (at + 512) (c + 1)
     laid-take next q =
         let laid = flat (map block (heldIn rows holder c)) in
-        let n : length laid ≡ at = flat-size block size (heldIn rows holder c) ∙ sym (w .place) in
+        let n : length laid ≡ at = flat-map block size (heldIn rows holder c) ∙ sym (w .place) in
         record {
           within = omega arith;
           place = omega (arith, w .place, held-take rows holder c (length (heldIn rows holder c)) e refl);

@@ -11,7 +11,7 @@ use Rattle.answer.specs.Checks.{Line, firstFail}
 use Rattle.answer.specs.Laws.{Passed}
 use Rattle.answer.specs.Lent.{left}
 use Rattle.answer.proofs.CheckLaws.{append-lines, same-refusal, done-passed, passed-done, passed-append, same-after}
-use Rattle.answer.proofs.ThoseLaws.{those-same}
+use Rattle.lists.proofs.ThoseLaws.{those-same}
 use Rattle.planning.specs.Groups as planning
 use Rattle.planning.specs.Groups.{marked, holds}
 use Rattle.planning.specs.Planned.{planLines, planned, plannedRows}

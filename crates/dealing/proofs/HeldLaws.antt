@@ -7,11 +7,13 @@ use mathlib.Core.List.{List, [], _∷_, map, List·Memᴰ·head, List·Memᴰ·t
 use lib.ListN.{length}
 use Rattle.field.proofs.ValuesLaws as field
 use Rattle.planning.specs.Groups as planning
-use Rattle.planning.specs.Groups.{_∈_, holds}
+use Rattle.lists.specs.Some.{_∈_}
+use Rattle.planning.specs.Groups.{holds}
 use Rattle.planning.proofs.Laws.{held-are}
 use Rattle.block.specs.Written.{blockBytes}
 use Rattle.dealing.specs.declared.Asked.{Asked}
-use Rattle.dealing.specs.Deal.{Deal, labelFor, blockFor, flat, askedOf, pieceCount, held, values, blockOf, card}
+use Rattle.dealing.specs.Deal.{Deal, labelFor, blockFor, askedOf, pieceCount, held, values, blockOf, card}
+use Rattle.lists.specs.Flat.{flat}
 
 -- ---- which pieces a person holds
 module _ (d : Deal) (holder j : ℕ) where

@@ -9,14 +9,14 @@ use lib.Dec.{eqb, ltb}
 use lib.ListN.{length, getD}
 use borrow.Author.Tests.{ltb-false, le-ltb, eqb-true, eqb-false, eq-eqb, ne-eqb, not-false}
 use Rattle.answer.specs.Laws.{Passed}
-use Rattle.answer.specs.Places.{firstPlace, found, at}
+use Rattle.lists.specs.Places.{firstPlace, found, at}
 use Rattle.answer.proofs.CheckLaws.{passed, passed-none, passed-one}
-use Rattle.answer.proofs.FirstLaws.{place-lacks, none-found, first-all, found-none}
-use Rattle.field.specs.Poly.{Below}
+use Rattle.lists.proofs.FirstLaws.{place-lacks, none-found, first-all, found-none}
+use Rattle.prime.specs.Prime.{Below, tooLarge}
 use Rattle.field.proofs.Sums.{below-within}
-use Rattle.answer.proofs.Truth.{neither}
+use Rattle.lists.proofs.Truth.{neither}
 use Rattle.dealing.specs.declared.Asked.{Asked}
-use Rattle.dealing.specs.Dealt.{tooLarge, outside, badNumber, badHolder, badWidth, badSecret, badCount, badRandom, inputLines}
+use Rattle.dealing.specs.Dealt.{outside, badNumber, badHolder, badWidth, badSecret, badCount, badRandom, inputLines}
 use Rattle.dealing.specs.Rows.{Ready}
 
 -- ---- a number in its range

@@ -9,13 +9,14 @@ use borrow.Author.Tests.{ltb-false}
 use Rattle.lists.specs.Run.{run}
 use Rattle.answer.specs.Outcome.{done}
 use Rattle.answer.specs.Laws.{Passed}
-use Rattle.answer.specs.Lent.{noRoom, over}
+use Rattle.answer.specs.Lent.{noRoom}
+use Rattle.lists.specs.Over.{over}
 use Rattle.answer.proofs.CheckLaws.{append-lines, done-passed, passed-done, passed, passed-append}
 use Rattle.answer.proofs.LentLaws as lent
-use Rattle.field.specs.Poly.{Below}
+use Rattle.prime.specs.Prime.{Below}
 use Rattle.field.specs.Pieces.{Random}
 use Rattle.planning.specs.Groups as planning
-use Rattle.planning.specs.Groups.{_∈_}
+use Rattle.lists.specs.Some.{_∈_}
 use Rattle.planning.specs.Planned.{planLines, planned}
 use Rattle.block.specs.Words.{bytesOf}
 use Rattle.block.specs.Layout.{heldAt}
@@ -27,7 +28,8 @@ use Rattle.dealing.specs.Dealt.{blockCount, dealLines, dealing, dealtInt
 use Rattle.dealing.specs.Rows.{Ready, roomSays}
 use Rattle.dealing.proofs.HeldLaws.{held-in}
 use Rattle.dealing.proofs.InputLaws.{lines-ready, ready-lines}
-use Rattle.dealing.proofs.CardLaws.{ready-builds, block-size, flat-size}
+use Rattle.dealing.proofs.CardLaws.{ready-builds, block-size}
+use Rattle.lists.proofs.FlatLaws.{flat-map}
 use Rattle.dealing.proofs.DealLaws.{linesFor, past-plan, plan-few}
 
 -- ---- what every card of such a deal rests on: planning accepts its policy, and what is asked for some holder is in its range
@@ -93,7 +95,7 @@ module _ (d : Deal) (holder : ℕ) where
 
   pub card-length : length (card d holder) ≡ 512 * blockCount d holder
   unfolding card blockOf blockCount
-  card-length = flat-size (blockOf d holder) block-length (held d holder)
+  card-length = flat-map (blockOf d holder) block-length (held d holder)
 
 module _ (d : Deal) (f : InRange d) (holder : ℕ) (least : 1 ≤ holder) (most : holder ≤ d .policy .people) where
   ready : Ready (askedOf d holder) (pieceCount d) (d .secret) (d .random)

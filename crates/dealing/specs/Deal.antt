@@ -1,8 +1,9 @@
 -- One deal and its cards, as bytes: document 01, "From secret to pieces" and "The card block".
 -- Assumes nothing.
 use Prim.Native.Nat.{ℕ, _-_}
-use mathlib.Core.List.{List, [], _∷_, _++_, map}
+use mathlib.Core.List.{List, map}
 use lib.ListN.{length}
+use Rattle.lists.specs.Flat.{flat}
 use Rattle.field.specs.Pieces.{values as valuesIn}
 use Rattle.planning.specs.Groups as planning
 use Rattle.planning.specs.Policy.{Policy}
@@ -38,11 +39,6 @@ labelFor asked k width j =
 -- that block's 512 bytes: the values of piece j, made with k − 1 coefficients for each word of the secret
 unfoldable pub blockFor : Asked → ℕ → List ℕ → List ℕ → ℕ → List ℕ
 blockFor asked k secret random j = blockBytes (labelFor asked k (length secret) j) (valuesIn (k - 1) secret random j)
-
--- lists one after another
-unfoldable pub flat : List (List ℕ) → List ℕ
-flat [] = []
-flat (b ∷ bs) = b ++ flat bs
 
 -- a card: a block for each of these pieces, in their order
 abbrev pub cardOver : Asked → ℕ → List ℕ → List ℕ → List ℕ → List ℕ

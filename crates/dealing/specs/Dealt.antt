@@ -6,18 +6,15 @@ use mathlib.Core.Bool.{Bool, not, _||_}
 use mathlib.Core.List.{List, [], _∷_, _++_}
 use lib.Dec.{eqb, ltb}
 use lib.ListN.{length}
+use Rattle.prime.specs.Prime.{tooLarge}
 use Rattle.answer.specs.declared.Kind.the-variants.{Deal as DealKind, Holder, Secret, Random}
 use Rattle.answer.specs.Outcome.{Outcome, done}
 use Rattle.answer.specs.Checks.{Line, line, firstFail}
-use Rattle.answer.specs.Places.{firstPlace, found}
+use Rattle.lists.specs.Places.{firstPlace, found}
 use Rattle.answer.specs.Lent.{noRoom, left}
 use Rattle.planning.specs.Planned.{planLines}
 use Rattle.dealing.specs.declared.Asked.{Asked}
 use Rattle.dealing.specs.Deal.{Deal, askedOf, pieceCount, held, card}
-
--- a word above 32748
-abbrev pub tooLarge : ℕ → Bool
-tooLarge v = ltb 32748 v
 
 -- a number outside 1 to high
 abbrev pub outside : ℕ → ℕ → Bool

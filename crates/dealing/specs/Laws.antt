@@ -6,7 +6,7 @@ use mathlib.Core.List.{List, _++_}
 use lib.ListN.{length, drop}
 use Rattle.lists.specs.Run.{run}
 use Rattle.answer.specs.Outcome.{done, refused}
-use Rattle.planning.specs.Groups.{_∈_}
+use Rattle.lists.specs.Some.{_∈_}
 use Rattle.block.specs.Words.{bytesOf}
 use Rattle.block.specs.Layout.{heldAt}
 use Rattle.block.specs.Open.{opening, valueBytes, TrueBlock}

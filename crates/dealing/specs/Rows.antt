@@ -6,9 +6,9 @@ use mathlib.Core.List.{List, [], _∷_}
 use lib.ListN.{length}
 use Rattle.answer.specs.Outcome.{Outcome, done}
 use Rattle.answer.specs.Checks.{firstFail}
-use Rattle.answer.specs.Places.{those}
+use Rattle.lists.specs.Places.{those}
 use Rattle.answer.specs.Lent.{noRoom}
-use Rattle.field.specs.Poly.{Below}
+use Rattle.prime.specs.Prime.{Below}
 use Rattle.field.specs.Pieces.{Random}
 use Rattle.planning.specs.Groups.{marked}
 use Rattle.dealing.specs.declared.Asked.{Asked}

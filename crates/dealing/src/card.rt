@@ -9,7 +9,8 @@ ghost use mathlib.Core.List.{_++_};
 ghost use Prim.Native.Nat.{_+_, _*_, _≤_};
 ghost use lib.ListN.{length, take, drop};
 ghost use Rattle.answer.specs.Outcome.{outcome};
-ghost use Rattle.answer.specs.Lent.{over, left};
+ghost use Rattle.lists.specs.Over.{over};
+ghost use Rattle.answer.specs.Lent.{left};
 ghost use Rattle.dealing.specs.Deal.{blockFor, cardOver};
 ghost use Rattle.dealing.specs.Rows.{Ready, heldIn, roomSays};
 

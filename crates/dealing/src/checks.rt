@@ -6,8 +6,9 @@ ghost use mathlib.Core.Path.{_≡_};
 ghost use Prim.Native.Nat.{_≤_};
 ghost use Rattle.answer.specs.Outcome.{outcome, done};
 ghost use Rattle.answer.specs.Checks.{firstFail};
-ghost use Rattle.answer.specs.Places.{firstPlace};
-ghost use Rattle.dealing.specs.Dealt.{tooLarge, outside, inputLines};
+ghost use Rattle.lists.specs.Places.{firstPlace};
+ghost use Rattle.prime.specs.Prime.{tooLarge};
+ghost use Rattle.dealing.specs.Dealt.{outside, inputLines};
 
 // The place of the first word above 32748, or 0.
 fn first_large(words: &[u16]) -> usize

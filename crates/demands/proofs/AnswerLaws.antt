@@ -8,11 +8,11 @@ use native.Mathlib.Nat.{eq-or-lt-of-le, le-refl}
 use native.Mathlib.Omega.{arith}
 use lib.ListN.{length, getD}
 use Rattle.answer.specs.Outcome.{refused}
-use Rattle.answer.proofs.ThoseLaws.{those-in, in-those, at-in, in-at}
+use Rattle.lists.proofs.ThoseLaws.{those-in, in-those, at-in, in-at}
 use Rattle.field.specs.Joined.{joined}
 use Rattle.field.proofs.Laws.{round-trip-words}
 use Rattle.lists.proofs.RunLaws.{run-is, run-same}
-use Rattle.planning.specs.Groups.{_∈_}
+use Rattle.lists.specs.Some.{_∈_}
 use Rattle.dealing.specs.Deal.{Deal, pieceCount, held, values}
 use Rattle.dealing.proofs.HeldLaws.{held-in}
 use Rattle.dealing.proofs.MadeLaws.{InRange}

@@ -6,14 +6,14 @@ use mathlib.Core.List.{List, [], _∷_, _++_, map, Memᴰ·of-map}
 use native.Mathlib.Nat.{not-suc-le-zero, le-of-suc-le-suc}
 use native.Mathlib.Omega.{arith}
 use lib.ListN.{length, getD, drop, length-map}
-use Rattle.answer.specs.Places.{at}
-use Rattle.answer.proofs.ThoseLaws.{at-in}
+use Rattle.lists.specs.Places.{at}
+use Rattle.lists.proofs.ThoseLaws.{at-in}
 use Rattle.dealing.specs.Deal.{Deal, held, blockOf, cardBlocks, card}
 use Rattle.dealing.proofs.MadeLaws.{InRange, block-length}
 use Rattle.demands.specs.Group.{Member, CardsOf}
 use Rattle.demands.specs.Demand2.{CardBlock}
 use Rattle.demands.proofs.BlockLaws.{card-block}
-use Rattle.demands.proofs.FlatLaws.{Long, flat-drop}
+use Rattle.lists.proofs.FlatLaws.{Long, flat-drop}
 
 -- ---- a list of blocks made from a list of pieces
 map-at : (f : ℕ → List ℕ) (l : List ℕ) (a : ℕ) → a < length l → getD (map f l) a [] ≡ f (getD l a 0)
@@ -22,13 +22,13 @@ map-at f (x ∷ l) zero h = refl
 map-at f (x ∷ l) (suc a) h = map-at f l a (le-of-suc-le-suc h)
 
 module _ (d : Deal) where
-  pub card-long : (holder : ℕ) → Long (cardBlocks d holder)
+  pub card-long : (holder : ℕ) → Long 512 (cardBlocks d holder)
   unfolding cardBlocks
   card-long holder = record {
     long = λ b m. let r = Memᴰ·of-map (blockOf d holder) (held d holder) m in ap length (sym (r .2)) ∙ block-length d holder (r .0);
   }
 
-  pub cards-long : (g : ℕ) (bs : List (List ℕ)) → CardsOf (cardBlocks d) (Member d g) bs → Long bs
+  pub cards-long : (g : ℕ) (bs : List (List ℕ)) → CardsOf (cardBlocks d) (Member d g) bs → Long 512 bs
   cards-long g bs c = record { long = λ b m. let r = c .theirs b m in card-long (r .0) .long b (r .2) }
 
 module _ (d : Deal) (f : InRange d) (holder : ℕ) (least : 1 ≤ holder) (most : holder ≤ d .policy .people) where

@@ -3,7 +3,8 @@ use mathlib.Core.Path.{refl, sym, ap, _∙_}
 use mathlib.Core.List.{List, [], _∷_, _++_, append-assoc}
 use Prim.Native.Nat.{ℕ}
 use Rattle.answer.specs.Lent.{noRoom}
-use Rattle.planning.specs.Groups.{pieceCount, some}
+use Rattle.planning.specs.Groups.{pieceCount}
+use Rattle.lists.specs.Some.{some}
 use Rattle.planning.specs.Planned.{planLines, planned, people, long, strangers, nobody, opens, clash, wide, listLines}
 use Rattle.block.specs.Layout.{headerOf}
 use Rattle.block.specs.Open.{opening}

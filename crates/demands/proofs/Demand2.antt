@@ -5,12 +5,12 @@ use Prim.Native.Nat.{ℕ, _-_}
 use native.Mathlib.Omega.{arith}
 use lib.ListN.{length, drop, List·getD-append}
 use lib.Seq.{drop-at}
-use Rattle.answer.specs.Places.{at}
-use Rattle.answer.proofs.ThoseLaws.{those-rise}
+use Rattle.lists.specs.Places.{at}
+use Rattle.lists.proofs.ThoseLaws.{those-rise}
 use Rattle.planning.specs.Sets.{member}
 use Rattle.planning.specs.Groups as groups
 use Rattle.planning.specs.Groups.{holds}
-use Rattle.answer.proofs.Truth.{not-so, so-not}
+use Rattle.lists.proofs.Truth.{not-so, so-not}
 use Rattle.planning.proofs.Laws as planning
 use Rattle.dealing.specs.Deal.{pieceCount, held}
 use Rattle.dealing.specs.Dealt.{Made, blockCount}

@@ -4,11 +4,12 @@ use Prim.Native.Nat.{ℕ, _≤_}
 use mathlib.Core.Path.{_≡_}
 use mathlib.Core.Bool.{true, false}
 use native.Mathlib.Omega.{arith}
-use Rattle.answer.proofs.ThoseLaws.{in-those, those-in}
+use Rattle.lists.proofs.ThoseLaws.{in-those, those-in}
 use Rattle.planning.specs.Sets.{member, inside}
-use Rattle.planning.specs.Groups.{_∈_, authorised, holds}
-use Rattle.answer.proofs.Truth.{never, isn't}
-use Rattle.planning.proofs.SomeLaws.{some-in, in-some}
+use Rattle.lists.specs.Some.{_∈_}
+use Rattle.planning.specs.Groups.{authorised, holds}
+use Rattle.lists.proofs.Truth.{never, isn't}
+use Rattle.lists.proofs.SomeLaws.{some-in, in-some}
 use Rattle.planning.proofs.Laws as planning
 use Rattle.dealing.specs.Deal.{Deal, pieceCount, held}
 use Rattle.dealing.proofs.HeldLaws.{held-in, in-held}

@@ -11,8 +11,9 @@ use Rattle.answer.specs.Outcome.{Outcome}
 use Rattle.answer.specs.Lent.{left}
 use Rattle.field.specs.Pieces.{Paired}
 use Rattle.field.proofs.Laws.{paired-some}
-use Rattle.planning.specs.Groups.{_∈_, holds}
-use Rattle.answer.proofs.Truth.{never}
+use Rattle.lists.specs.Some.{_∈_}
+use Rattle.planning.specs.Groups.{holds}
+use Rattle.lists.proofs.Truth.{never}
 use Rattle.dealing.specs.Deal.{Deal, again, pieceCount, held, values, card}
 use Rattle.dealing.specs.Dealt.{Made, dealing, dealtInto, blockCount}
 use Rattle.dealing.proofs.HeldLaws.{card-depends, held-in}

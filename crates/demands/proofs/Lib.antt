@@ -3,7 +3,6 @@ pub mod UnreadLaws
 pub mod Demand1
 pub mod GroupLaws
 pub mod BlockLaws
-pub mod FlatLaws
 pub mod PieceLaws
 pub mod CardLaws
 pub mod OneBlock

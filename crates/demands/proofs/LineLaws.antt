@@ -11,9 +11,9 @@ use Rattle.answer.specs.Outcome.{Outcome, done, refused, number}
 use Rattle.answer.specs.Checks.{Line, pick, firstFail}
 use Rattle.answer.specs.Laws.{Passed}
 use Rattle.answer.proofs.CheckLaws.{passed-none, passed-one, refused-by}
-use Rattle.planning.specs.Groups.{_∈_, some}
-use Rattle.answer.proofs.Truth.{never, isn't, neither}
-use Rattle.planning.proofs.SomeLaws.{in-some}
+use Rattle.lists.specs.Some.{_∈_, some}
+use Rattle.lists.proofs.Truth.{never, isn't, neither}
+use Rattle.lists.proofs.SomeLaws.{in-some}
 use Rattle.pile.specs.Lines.{linesFrom}
 use Rattle.demands.specs.Demand1.{Speaks, Ends, numbers, eachBlock}
 

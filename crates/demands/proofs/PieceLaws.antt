@@ -6,8 +6,8 @@ use mathlib.Core.Bool.{true, false, not, _||_}
 use mathlib.Core.Logic.{⊎-elim}
 use Rattle.planning.specs.Sets.{worth, member}
 use Rattle.planning.specs.Groups.{authorised, maximal, tight, maximalBy}
-use Rattle.answer.proofs.Truth.{never, decided, both, and-both, or-l, or-r, or-cases, not-so, so-not}
-use Rattle.planning.proofs.EachLaws.{each-at, each-of}
+use Rattle.lists.proofs.Truth.{never, decided, both, and-both, or-l, or-r, or-cases, not-so, so-not}
+use Rattle.lists.proofs.EachLaws.{each-at, each-of}
 use Rattle.dealing.specs.Deal.{Deal}
 use Rattle.demands.specs.Group.{Group}
 use Rattle.demands.specs.Demand2.{Maximal}

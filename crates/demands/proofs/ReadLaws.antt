@@ -3,19 +3,21 @@
 use Prim.Native.Nat.{ℕ, suc, _+_, _-_, _%_, _≤_}
 use mathlib.Core.Path.{_≡_, refl, sym, ap, subst, _∙_}
 use mathlib.Core.Bool.{Bool, true, false}
-use mathlib.Core.List.{List, [], _∷_, _++_, List·Memᴰ, Memᴰ·map, Memᴰ·of-map}
-use native.Mathlib.Nat.{le-refl}
+use mathlib.Core.List.{List, [], _++_, List·Memᴰ, Memᴰ·map, Memᴰ·of-map}
 use native.Mathlib.Omega.{arith}
 use lib.ListN.{length, getD}
 use borrow.Author.Tests.{ne-eqb}
-use Rattle.answer.specs.Places.{found}
-use Rattle.answer.proofs.FirstLaws.{first-all, found-some, found-none}
-use Rattle.answer.proofs.ThoseLaws.{those-same, at-in, in-at}
+use Rattle.lists.specs.Places.{found}
+use Rattle.lists.proofs.FirstLaws.{first-all, found-some, found-none}
+use Rattle.lists.proofs.ThoseLaws.{those-same, at-in, in-at}
 use Rattle.field.proofs.Laws.{values-at}
-use Rattle.planning.specs.Groups.{_∈_}
-use Rattle.answer.proofs.Truth.{never}
+use Rattle.lists.specs.Some.{_∈_}
+use Rattle.lists.proofs.Truth.{never}
+use Rattle.block.specs.declared.deal.DealWords.{DealWords}
+use Rattle.block.specs.declared.Label.{Label}
 use Rattle.block.specs.Open.{TrueBlock}
-use Rattle.dealing.specs.Deal.{Deal, pieceCount, held, values, blockOf, cardBlocks, flat}
+use Rattle.dealing.specs.Deal.{Deal, label, pieceCount, held, values, blockOf, cardBlocks}
+use Rattle.lists.specs.Flat.{flat}
 use Rattle.dealing.proofs.HeldLaws.{held-in}
 use Rattle.dealing.proofs.MadeLaws.{InRange}
 use Rattle.joining.specs.Pile as Pile
@@ -27,8 +29,8 @@ use Rattle.joining.proofs.PileLaws.{own-in}
 use Rattle.demands.specs.Group.{Member, CardsOf, WholeCards, gathers, gathered}
 use Rattle.demands.specs.Demand2.{CardBlock}
 use Rattle.demands.proofs.GroupLaws.{gathers-by, gathers-who}
-use Rattle.demands.proofs.BlockLaws.{block-true, card-block}
-use Rattle.demands.proofs.FlatLaws.{flat-length, flat-drop}
+use Rattle.demands.proofs.BlockLaws.{block-true, card-block, label-is, piece-is}
+use Rattle.lists.proofs.FlatLaws.{flat-length, flat-drop}
 use Rattle.demands.proofs.CardLaws.{cards-long}
 
 -- b begins with the block of a piece that a member of the group holds
@@ -82,7 +84,7 @@ module _ (d : Deal) (f : InRange d) (g : ℕ) (bs : List (List ℕ)) (c : CardsO
             let b = in-at [] bs (blockOf d i j) (c .all i m (blockOf d i j) (Memᴰ·map (blockOf d i) has)) in
             let back : suc (b .0) - 1 ≡ b .0 = omega arith in
             let s = at-block (suc (b .0)) i j (omega arith) (b .1) m has (ap (λ (x : ℕ). getD bs x []) back ∙ b .2) in
-            (suc (b .0), (omega arith, omega (arith, b .1)), s .0 .piece-is);
+            (suc (b .0), (omega arith, omega (arith, b .1)), piece-is (s .0));
       }
 
 pub reads : (d : Deal) → InRange d → (g : ℕ) (pile : List ℕ) → WholeCards d g pile → Reads d g pile
@@ -95,16 +97,17 @@ module _ {d : Deal} {g : ℕ} {pile : List ℕ} (r : Reads d g pile) where
   piece-in a h =
       let t = r .theirs a h in
       let q = held-in d (t .who) (t .which) (t .has) in
-      (omega (arith, q .0, t .says .piece-is), omega (arith, q .1, t .says .piece-is))
+      (omega (arith, q .0, piece-is (t .says)), omega (arith, q .1, piece-is (t .says)))
 
   deal-is : (a : ℕ) → In pile a → dealAt pile a ≡ record { number = d .number; people = d .policy .people; pieces = pieceCount d; width = length (d .secret) }
-  deal-is a h = let s = r .theirs a h .says in λ t. record { number = s .deal t; people = s .people t; pieces = s .pieces t; width = s .width t }
+  unfolding label
+  deal-is a h = ap (λ (l : Label). l .deal) (label-is (r .theirs a h .says))
 
   pub pieces-are : 1 ≤ blocks pile → Pile.pieceCount pile ≡ pieceCount d
-  pieces-are some = r .theirs (ownBlock pile) (own-in pile some) .says .pieces
+  pieces-are some = ap (λ (w : DealWords). w .pieces) (deal-is (ownBlock pile) (own-in pile some))
 
   pub width-is : 1 ≤ blocks pile → width pile ≡ length (d .secret)
-  width-is some = r .theirs (ownBlock pile) (own-in pile some) .says .width
+  width-is some = ap (λ (w : DealWords). w .width) (deal-is (ownBlock pile) (own-in pile some))
 
   -- value i of block a is that of its piece
   pub value-is : (a i : ℕ) → In pile a → 1 ≤ i → i ≤ length (d .secret) → valueOf pile a i ≡ getD (values d (pieceAt pile a)) (i - 1) 0
@@ -113,7 +116,7 @@ module _ {d : Deal} {g : ℕ} {pile : List ℕ} (r : Reads d g pile) where
       let t = r .theirs a h in
       t .says .value i l u
       ∙ sym (values-at (pieceCount d - 1) (d .secret) (d .random) (t .which) i l u)
-      ∙ ap (λ (j : ℕ). getD (values d j) (i - 1) 0) (sym (t .says .piece-is))
+      ∙ ap (λ (j : ℕ). getD (values d j) (i - 1) 0) (sym (piece-is (t .says)))
 
   pub sound : Sound pile
   sound = record {
@@ -134,7 +137,7 @@ module _ {d : Deal} {g : ℕ} {pile : List ℕ} (r : Reads d g pile) where
       (λ a l u.
       let t = r .theirs a (l, omega arith) in
       ne-eqb (pieceAt pile a) j
-      (λ e. never none (subst (λ (x : ℕ). gathers d g x ≡ true) (sym (t .says .piece-is) ∙ e) (gathers-by d g (t .who) (t .which) (t .in-group) (t .has)))))
+      (λ e. never none (subst (λ (x : ℕ). gathers d g x ≡ true) (sym (piece-is (t .says)) ∙ e) (gathers-by d g (t .who) (t .which) (t .in-group) (t .has)))))
 
   place-found : (j : ℕ) → 1 ≤ j → j ≤ pieceCount d → (x : Bool) → gathers d g j ≡ x → found (placeOf pile j) ≡ x
   place-found j l u true e =

@@ -4,7 +4,7 @@ use mathlib.Core.List.{List}
 use Prim.Native.Nat.{ℕ}
 use Rattle.answer.specs.Outcome.{Outcome}
 use Rattle.answer.proofs.CheckLaws.{passed-done, passed-both, passed-one, passed-none}
-use Rattle.answer.proofs.FirstLaws.{found-none}
+use Rattle.lists.proofs.FirstLaws.{found-none}
 use Rattle.block.proofs.Laws.{true-opens}
 use Rattle.pile.specs.Blocks.{restFrom}
 use Rattle.pile.specs.Lines.{everyBlock}

@@ -6,17 +6,18 @@ use mathlib.Core.List.{List, [], _∷_, _++_, List·Memᴰ, List·Memᴰ·head, 
 use mathlib.Core.Logic.{⊎-elim}
 use native.Mathlib.Omega.{arith}
 use lib.ListN.{length, length-append}
-use Rattle.answer.proofs.ThoseLaws.{those-few}
+use Rattle.lists.proofs.ThoseLaws.{those-few}
 use Rattle.planning.specs.Sets.{member}
 use Rattle.planning.specs.Groups as planning
-use Rattle.planning.specs.Groups.{_∈_, holds}
-use Rattle.dealing.specs.Deal.{Deal, pieceCount, held, flat, blockOf, cardBlocks, card}
+use Rattle.lists.specs.Some.{_∈_}
+use Rattle.planning.specs.Groups.{holds}
+use Rattle.dealing.specs.Deal.{Deal, pieceCount, held, blockOf, cardBlocks, card}
+use Rattle.lists.specs.Flat.{flat}
 use Rattle.dealing.specs.Dealt.{Made, blockCount}
 use Rattle.dealing.proofs.MadeLaws.{InRange, made-in-range, card-length}
-use Rattle.dealing.proofs.CardLaws.{flat-append}
+use Rattle.lists.proofs.FlatLaws.{flat-append, flat-length}
 use Rattle.demands.specs.Group.{Member, CardsOf, WholeCards, cards, members}
 use Rattle.demands.proofs.GroupLaws.{in-members, members-in}
-use Rattle.demands.proofs.FlatLaws.{flat-length}
 use Rattle.demands.proofs.CardLaws.{cards-long}
 
 -- ---- cards in a row, whatever the blocks of each holder's card are

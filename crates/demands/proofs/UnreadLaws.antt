@@ -12,7 +12,7 @@ use Rattle.answer.specs.Outcome.{Outcome, done, refused}
 use Rattle.answer.specs.Checks.{Line, firstFail}
 use Rattle.answer.specs.Lent.{noRoom}
 use Rattle.answer.proofs.CheckLaws.{given, not-given, append-lines, passed-done}
-use Rattle.answer.proofs.FirstLaws.{found-some, found-none}
+use Rattle.lists.proofs.FirstLaws.{found-some, found-none}
 use Rattle.block.specs.Words.{wordAt}
 use Rattle.block.specs.Open.{firstAbove, unread as unreadLine, check, header, blockLines, TrueBlock}
 use Rattle.block.proofs.OpenLaws.{small-of}

@@ -9,7 +9,7 @@ use lib.ListN.{length}
 use Rattle.answer.specs.Outcome.{Outcome, done, refused, number}
 use Rattle.answer.specs.Checks.{Line}
 use Rattle.answer.specs.Laws.{Passed}
-use Rattle.field.specs.Poly.{Below}
+use Rattle.prime.specs.Prime.{Below}
 use Rattle.planning.specs.Groups.{pieceCount}
 use Rattle.planning.specs.Policy.{Policy}
 use Rattle.planning.specs.Planned.{planLines, planned}

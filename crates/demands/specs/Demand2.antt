@@ -7,17 +7,18 @@ use mathlib.Core.Logic.{_↔_}
 use mathlib.Core.List.{List, _++_}
 use lib.ListN.{length, take, drop}
 use Rattle.answer.specs.Outcome.{done, refused}
-use Rattle.answer.specs.Places.{at}
+use Rattle.lists.specs.Places.{at}
 use Rattle.answer.specs.Laws.{Passed}
 use Rattle.field.specs.Poly.{value, piece, One}
 use Rattle.planning.specs.Sets.{worth, member}
 use Rattle.planning.specs.Groups as planning
-use Rattle.planning.specs.Groups.{_∈_}
+use Rattle.lists.specs.Some.{_∈_}
 use Rattle.planning.specs.Policy.{Policy}
 use Rattle.planning.specs.Planned.{listLines}
 use Rattle.planning.specs.Laws.{Suits, Clashes}
 use Rattle.block.specs.Words.{wordAt, checkOf}
-use Rattle.dealing.specs.Deal.{Deal, pieceCount, held, card}
+use Rattle.block.specs.Layout.{heldAt}
+use Rattle.dealing.specs.Deal.{Deal, pieceCount, held, values, label, card}
 use Rattle.dealing.specs.Dealt.{Made, dealing, dealtInto}
 use Rattle.joining.specs.Joined.{joining, joinedInto}
 use Rattle.joining.specs.Laws.{Joins, Fits}
@@ -58,21 +59,14 @@ WhoOpens = (d : Deal) → Made d → (g : ℕ) → Group d g
 abbrev pub coefficients : Deal → ℕ → List ℕ
 coefficients d i = take (pieceCount d - 1) (drop ((i - 1) * (pieceCount d - 1)) (d .random))
 
--- the block of piece j on the holder's card, at the front of b: the table of "The card block", word by word; `piece` is the polynomial's
--- value at j
+-- the block of piece j on the holder's card, at the front of b: each of words 1 to 255 is what the table of the layout has there for that
+-- card's label and the piece's values; each value is the polynomial's at j; and the last word is the check of the others
 pub record CardBlock (d : Deal) (holder j : ℕ) (b : List ℕ) : Type 0 where
-  pub mark : wordAt b 1 ≡ 1987
-  pub deal : wordAt b 2 ≡ d .number
-  pub holder-is : wordAt b 3 ≡ holder
-  pub people : wordAt b 4 ≡ d .policy .people
-  pub pieces : wordAt b 5 ≡ pieceCount d
-  pub width : wordAt b 6 ≡ length (d .secret)
-  pub piece-is : wordAt b 7 ≡ j
+  pub words : (i : ℕ) → 1 ≤ i → i ≤ 255 → wordAt b i ≡ heldAt (label d holder j) (values d j) i
   pub value : (i : ℕ) → 1 ≤ i → i ≤ length (d .secret) → wordAt b (7 + i) ≡ piece (at (d .secret) i) (coefficients d i) j
-  pub zeros : (i : ℕ) → 8 + length (d .secret) ≤ i → i ≤ 255 → wordAt b i ≡ 0
   pub check : wordAt b 256 ≡ checkOf b
 
--- That table leaves no word open: two blocks that keep it agree in all 256 words.
+-- That leaves no word open: two such blocks agree in all 256 words.
 abbrev pub OneBlock : Type 0
 OneBlock = (d : Deal) (holder j : ℕ) (b c : List ℕ) → CardBlock d holder j b → CardBlock d holder j c
     → (i : ℕ) → 1 ≤ i → i ≤ 256 → wordAt b i ≡ wordAt c i

@@ -5,10 +5,10 @@ use mathlib.Core.Path.{_≡_}
 use mathlib.Core.List.{List, _++_}
 use lib.ListN.{length, drop}
 use Rattle.answer.specs.Outcome.{Outcome, done, refused}
-use Rattle.field.specs.Poly.{Below}
+use Rattle.prime.specs.Prime.{Below}
 use Rattle.field.specs.Hiding.{Matched, Hidden, Gives}
 use Rattle.field.specs.Pieces.{Random}
-use Rattle.planning.specs.Groups.{_∈_}
+use Rattle.lists.specs.Some.{_∈_}
 use Rattle.dealing.specs.Deal.{Deal, again, pieceCount, card}
 use Rattle.dealing.specs.Dealt.{Made, dealing, dealtInto}
 use Rattle.joining.specs.Joined.{joining, joinedInto}

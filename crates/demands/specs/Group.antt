@@ -5,10 +5,12 @@ use mathlib.Core.Path.{_≡_}
 use mathlib.Core.Bool.{Bool, true}
 use mathlib.Core.List.{List, map, List·Memᴰ}
 use lib.ListN.{length}
-use Rattle.answer.specs.Places.{those}
+use Rattle.lists.specs.Places.{those}
 use Rattle.planning.specs.Sets.{member, inside}
-use Rattle.planning.specs.Groups.{_∈_, some, holds}
-use Rattle.dealing.specs.Deal.{Deal, pieceCount, cardBlocks, flat, card}
+use Rattle.lists.specs.Some.{_∈_, some}
+use Rattle.planning.specs.Groups.{holds}
+use Rattle.dealing.specs.Deal.{Deal, pieceCount, cardBlocks, card}
+use Rattle.lists.specs.Flat.{flat}
 
 -- g is a group of the deal's people: it names no person above n
 abbrev pub Group : Deal → ℕ → Type 0

@@ -6,10 +6,11 @@ use Prim.Native.Nat.{ℕ, zero, suc, _+_, _*_, _%_, _≤_}
 use native.Mathlib.Omega.{arith}
 use native.Mathlib.Nat.{suc-inj, suc-ne-zero, not-suc-le-zero, le-of-suc-le-suc}
 use lib.ListN.{length, getD, take, drop, length-take, length-drop}
-use Rattle.field.specs.Poly.{p, Below, value, piece}
+use Rattle.prime.specs.Prime.{p, Below}
+use Rattle.field.specs.Poly.{value, piece}
 use Rattle.field.specs.Pieces.{values}
 use Rattle.field.specs.Added.{added}
-use Rattle.field.proofs.Mod.{_≈_, _then_, add≈, mul≈, mod≈, mod-below}
+use Rattle.prime.proofs.Mod.{_≈_, _then_, add≈, mul≈, mod≈, mod-below}
 use Rattle.field.proofs.Sums.{below-nil, below-cons}
 
 pub added-length : (xs ys : List ℕ) → length xs ≤ length ys → length (added xs ys) ≡ length xs

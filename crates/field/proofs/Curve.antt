@@ -7,10 +7,11 @@ use Prim.Native.Nat.{ℕ, suc, zero-le, _+_, _-_, _*_, _%_, _≤_, _<_}
 use native.Mathlib.Omega.{arith}
 use native.Mathlib.Nat.{eq-or-lt-of-le, le-of-eq, le-refl}
 use lib.ListN.{length, getD}
-use Rattle.field.specs.Poly.{p, value, Below, Through}
+use Rattle.prime.specs.Prime.{p, Below}
+use Rattle.field.specs.Poly.{value, Through}
 use Rattle.field.specs.Joined.{joined}
 use Rattle.field.specs.Lagrange.{lagrangeWeight}
-use Rattle.field.proofs.Mod.{_≈_, _then_, from≡, add≈, mul≈, mul≈₂, small}
+use Rattle.prime.proofs.Mod.{_≈_, _then_, from≡, add≈, mul≈, mul≈₂, small}
 use Rattle.field.proofs.Sums.{below-nil, plusTimes, plus-times-value, plus-times-length, plus-times-below}
 use Rattle.field.proofs.Unique.{value-zero, joined-value}
 use Rattle.field.proofs.Loosened.{loose, loose-none, loose-length}

@@ -6,10 +6,11 @@ use Prim.Native.Nat.{ℕ, zero, suc, _+_, _*_, _%_, _<_}
 use native.Mathlib.Omega.{arith}
 use lib.Dec.{lit<}
 use lib.ListN.{length}
-use Rattle.field.specs.Poly.{p, value, points}
+use Rattle.prime.specs.Prime.{p, minus}
+use Rattle.field.specs.Poly.{value, points}
 use Rattle.lists.specs.Run.{run}
-use Rattle.field.specs.Joined.{minus, diffs, joinedIn, joined}
-use Rattle.field.proofs.Mod.{_≈_, _then_, flip, from≡, add≈, mul≈, mod≈, mod-below, small, minus≈, minus-below}
+use Rattle.field.specs.Joined.{diffs, joinedIn, joined}
+use Rattle.prime.proofs.Mod.{_≈_, _then_, flip, from≡, add≈, mul≈, mod≈, mod-below, small, minus≈, minus-below}
 use Rattle.lists.proofs.RunLaws.{run-length}
 
 -- the differences of f, mod p

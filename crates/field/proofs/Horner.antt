@@ -8,8 +8,9 @@ use native.Mathlib.Nat.{not-suc-le-zero}
 use native.Mathlib.Numerals.{sub-one}
 use lib.ListN.{length, getD, drop}
 use lib.Seq.{drop-cons, drop-length}
-use Rattle.field.specs.Poly.{p, value, piece}
-use Rattle.field.proofs.Mod.{_≈_, _then_, from≡, mul≈, mod≈}
+use Rattle.prime.specs.Prime.{p}
+use Rattle.field.specs.Poly.{value, piece}
+use Rattle.prime.proofs.Mod.{_≈_, _then_, from≡, mul≈, mod≈}
 
 pub horner-start : (cs : List ℕ) (x : ℕ) → 0 ≈ value (drop (length cs) cs) x
 unfolding value

@@ -1,7 +1,6 @@
 -- This room's laws, proved: each by its name in specs/Laws.antt. Assumes nothing.
 use mathlib.Core.Path.{_≡_, _∙_}
 use mathlib.Core.List.{List}
-use native.Mathlib.Nat.{pos-of-ne-zero}
 use Prim.Native.Nat.{ℕ, _-_, _≤_}
 use native.Mathlib.Omega.{arith}
 use lib.ListN.{length}
@@ -9,7 +8,6 @@ use Rattle.field.specs.Secret.{column}
 use Rattle.field.specs.Joined.{joined}
 use Rattle.field.specs.Poly.{value, Through, One}
 use Rattle.field.specs.Laws as law
-use Rattle.field.proofs.Prime as prime
 use Rattle.field.proofs.Unique as unique
 use Rattle.field.proofs.ValuesLaws as values
 use Rattle.field.proofs.RoundTrip as trip
@@ -20,12 +18,6 @@ use Rattle.field.proofs.HidingLaws as hiding
 use Rattle.field.proofs.Table as table
 use Rattle.field.proofs.AddedLaws as sums
 use Rattle.field.proofs.SecretLaws as secret
-
-pub no-divisor : law.NoDivisor
-no-divisor m h l e = omega (arith, prime.no-divisor m h l)
-
-pub inverse-right : law.InverseRight
-inverse-right a h = (prime.inverse-right a (pos-of-ne-zero h) .same, prime.inverse-below a)
 
 pub values-at : law.ValuesAt
 values-at q ds rs j i l h = values.values-at q ds rs j (i - 1) (omega arith)

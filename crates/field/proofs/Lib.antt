@@ -1,5 +1,3 @@
-pub mod Mod
-pub mod Prime
 pub mod Degree
 pub mod Sums
 pub mod Horner

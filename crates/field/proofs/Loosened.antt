@@ -10,11 +10,12 @@ use native.Mathlib.Nat.{eq-or-lt-of-le, le-of-suc-le-suc}
 use borrow.Author.Tests.{eqb-true, eq-eqb, ne-eqb}
 use lib.Dec.{eqb}
 use lib.ListN.{length}
-use Rattle.field.specs.Poly.{p, value, Below}
-use Rattle.field.specs.Inverse.{inverse}
+use Rattle.prime.specs.Prime.{p, Below}
+use Rattle.field.specs.Poly.{value}
+use Rattle.prime.specs.Inverse.{inverse}
 use Rattle.field.specs.Laws.{Loose}
-use Rattle.field.proofs.Mod.{_≈_, _then_, from≡, add≈, mul≈}
-use Rattle.field.proofs.Prime.{inverse-right}
+use Rattle.prime.proofs.Mod.{_≈_, _then_, from≡, add≈, mul≈}
+use Rattle.prime.proofs.Prime.{inverse-right}
 use Rattle.field.proofs.Sums.{below-nil, plusTimes, plus-times-value, plus-times-length, plus-times-below}
 
 -- its coefficients after the 1

@@ -7,11 +7,11 @@ use native.Mathlib.Omega.{arith}
 use native.Mathlib.Nat.{suc-inj, suc-ne-zero, le-of-eq}
 use lib.ListN.{length, take, drop, length-append, length-drop, take-append-drop}
 use lib.Seq.{take-at, drop-at, length-take-le}
-use Rattle.field.specs.Poly.{value, Below, piece}
+use Rattle.field.specs.Poly.{value, piece}
+use Rattle.prime.specs.Prime.{Below, minus}
 use Rattle.field.specs.Pieces.{values, Random, Other, Paired}
-use Rattle.field.specs.Joined.{minus}
 use Rattle.field.specs.Laws.{Loose}
-use Rattle.field.proofs.Mod.{_≈_, _then_, from≡, add≈, mul≈, mod≈, small, minus≈}
+use Rattle.prime.proofs.Mod.{_≈_, _then_, from≡, add≈, mul≈, mod≈, small, minus≈}
 use Rattle.field.proofs.Sums.{below-rest, below-take, below-drop, below-append, plusTimes, plus-times-value, plus-times-length, plus-times-below}
 
 -- ---- one word: the coefficients rs, with which d′ gives what d gave, where 1, cs.. is 0

@@ -10,12 +10,12 @@ use native.Mathlib.Nat.{pos-of-ne-zero}
 use native.Mathlib.Numerals.{add-one}
 use borrow.Author.Tests.{eqb-false, eq-eqb, ne-eqb}
 use lib.Dec.{eqb, lit<}
-use Rattle.field.specs.Poly.{p, value}
-use Rattle.field.specs.Joined.{minus}
-use Rattle.field.specs.Inverse.{inverse}
+use Rattle.prime.specs.Prime.{p, minus}
+use Rattle.field.specs.Poly.{value}
+use Rattle.prime.specs.Inverse.{inverse}
 use Rattle.field.specs.Lagrange.{product, lagrangeWeight}
-use Rattle.field.proofs.Mod.{_≈_, _then_, flip, from≡, add≈, mul≈, mul≈₂, mod≈, mod-below, same-small, minus≈}
-use Rattle.field.proofs.Prime.{inverse-right, euclid}
+use Rattle.prime.proofs.Mod.{_≈_, _then_, flip, from≡, add≈, mul≈, mul≈₂, mod≈, mod-below, same-small, minus≈}
+use Rattle.prime.proofs.Prime.{inverse-right, euclid}
 use Rattle.field.proofs.Sums.{plusTimes}
 use Rattle.field.proofs.Loosened.{loose, factor}
 

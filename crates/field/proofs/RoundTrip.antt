@@ -7,7 +7,8 @@ use native.Mathlib.Omega.{arith}
 use native.Mathlib.Nat.{not-suc-le-zero, le-of-suc-le-suc}
 use lib.ListN.{length, getD, take, drop, length-drop}
 use lib.Seq.{length-take-le}
-use Rattle.field.specs.Poly.{piece, Below}
+use Rattle.field.specs.Poly.{piece}
+use Rattle.prime.specs.Prime.{Below}
 use Rattle.lists.specs.Run.{run}
 use Rattle.field.specs.Pieces.{values, Random}
 use Rattle.field.specs.Joined.{joined}

@@ -7,7 +7,7 @@ use lib.Dec.{lit<}
 use lib.ListN.{length, getD, List·getD-eq-default}
 use Rattle.lists.specs.Run.{run}
 use Rattle.lists.proofs.RunLaws.{run-length, run-at}
-use Rattle.field.specs.Poly.{p, Below}
+use Rattle.prime.specs.Prime.{p, Below}
 use Rattle.field.specs.Joined.{joined}
 use Rattle.field.specs.Secret.{column, secretOf}
 

@@ -8,8 +8,9 @@ use native.Mathlib.Nat.{not-suc-le-zero, le-of-suc-le-suc}
 use native.Mathlib.Decide.{decLt}
 use lib.Dec.{lit<}
 use lib.ListN.{length, getD, take, drop, List·getD-eq-default}
-use Rattle.field.specs.Poly.{p, value, Below}
-use Rattle.field.proofs.Mod.{_≈_, _then_, add≈, mul≈, mod≈, mod-below}
+use Rattle.prime.specs.Prime.{p, Below}
+use Rattle.field.specs.Poly.{value}
+use Rattle.prime.proofs.Mod.{_≈_, _then_, add≈, mul≈, mod≈, mod-below}
 
 -- ---- lists of numbers from 0 to 32748
 pub below-nil : Below []

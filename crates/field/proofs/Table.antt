@@ -8,7 +8,7 @@ use native.Mathlib.Nat.{mul-le-mul}
 use native.Mathlib.Numerals.{add-one}
 use lib.ListN.{length, getD, set, drop, replicate, List·getD-append}
 use lib.Seq.{drop-cons, drop-length, set-at, append-snoc}
-use Rattle.field.specs.Poly.{p, Below}
+use Rattle.prime.specs.Prime.{p, Below}
 use Rattle.lists.specs.Run.{run}
 use Rattle.field.specs.Joined.{joined}
 use Rattle.field.specs.Lagrange.{lagrangeWeight, Weights, weightsOf}

@@ -6,10 +6,11 @@ use Prim.Native.Nat.{ℕ, _*_, _%_, _≤_, _<_}
 use native.Mathlib.Omega.{arith}
 use native.Mathlib.Nat.{suc-inj, suc-ne-zero}
 use lib.ListN.{length}
-use Rattle.field.specs.Poly.{p, value, Below, points, Through}
+use Rattle.prime.specs.Prime.{p, Below}
+use Rattle.field.specs.Poly.{value, points, Through}
 use Rattle.field.specs.Joined.{joined}
-use Rattle.field.proofs.Mod.{_≈_, small}
-use Rattle.field.proofs.Prime.{cancel}
+use Rattle.prime.proofs.Mod.{_≈_, small}
+use Rattle.prime.proofs.Prime.{cancel}
 use Rattle.lists.proofs.RunLaws.{run-is, run-same}
 use Rattle.field.proofs.Degree.{joined-points}
 use Rattle.field.proofs.Sums.{below-rest}

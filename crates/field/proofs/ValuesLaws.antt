@@ -7,9 +7,10 @@ use native.Mathlib.Omega.{arith}
 use native.Mathlib.Nat.{not-suc-le-zero, le-of-suc-le-suc}
 use lib.ListN.{length, getD, take, drop, replicate, length-replicate}
 use lib.Seq.{drop-drop}
-use Rattle.field.specs.Poly.{value, piece, Below}
+use Rattle.field.specs.Poly.{value, piece}
+use Rattle.prime.specs.Prime.{Below}
 use Rattle.field.specs.Pieces.{values, Random}
-use Rattle.field.proofs.Mod.{mod-below}
+use Rattle.prime.proofs.Mod.{mod-below}
 use Rattle.field.proofs.Sums.{below-nil, below-cons}
 
 -- i counts from 0

@@ -8,7 +8,8 @@ use native.Mathlib.Numerals.{add-one}
 use native.Mathlib.Omega.{arith}
 use lib.ListN.{length, getD, take, drop, set, length-set}
 use lib.Seq.{drop-length, take-suc-set, drop-cons, append-snoc, drop-drop}
-use Rattle.field.specs.Poly.{Below, piece}
+use Rattle.prime.specs.Prime.{Below}
+use Rattle.field.specs.Poly.{piece}
 use Rattle.field.specs.Pieces.{values}
 use Rattle.field.proofs.Sums.{below-cons, below-take, below-drop}
 

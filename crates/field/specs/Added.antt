@@ -2,7 +2,7 @@
 -- Assumes nothing.
 use mathlib.Core.List.{List, [], _∷_}
 use Prim.Native.Nat.{ℕ, _+_, _%_}
-use Rattle.field.specs.Poly.{p}
+use Rattle.prime.specs.Prime.{p}
 
 -- the sums mod p, as far as both lists go
 unfoldable pub added : List ℕ → List ℕ → List ℕ

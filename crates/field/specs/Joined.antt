@@ -1,13 +1,9 @@
 -- The joined word of k pieces, by differences. What it means is the law JoinedOne: "the value at 0 of the one polynomial of degree below k
 -- through (1, piece 1) to (k, piece k)". Assumes nothing.
 use mathlib.Core.List.{List, [], _∷_}
-use Prim.Native.Nat.{ℕ, zero, suc, _+_, _-_, _%_}
+use Prim.Native.Nat.{ℕ, zero, suc}
 use lib.ListN.{length}
-use Rattle.field.specs.Poly.{p}
-
--- a − b mod p
-unfoldable pub minus : ℕ → ℕ → ℕ
-minus a b = (a + (p - b % p)) % p
+use Rattle.prime.specs.Prime.{minus}
 
 -- the differences of neighbours, each less the one before it
 unfoldable pub diffs : List ℕ → List ℕ

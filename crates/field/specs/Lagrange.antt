@@ -6,10 +6,9 @@ use mathlib.Core.List.{List, _++_}
 use Prim.Native.Nat.{ℕ, zero, suc, _-_, _*_, _%_, _≤_}
 use lib.Dec.{eqb}
 use lib.ListN.{getD, replicate}
-use Rattle.field.specs.Poly.{p}
+use Rattle.prime.specs.Prime.{p, minus}
 use Rattle.lists.specs.Run.{run}
-use Rattle.field.specs.Joined.{minus}
-use Rattle.field.specs.Inverse.{inverse}
+use Rattle.prime.specs.Inverse.{inverse}
 
 -- the product of i − x over the pieces i of 1 to k but j, mod p
 unfoldable pub product : ℕ → ℕ → ℕ → ℕ

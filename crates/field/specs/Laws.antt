@@ -6,22 +6,15 @@ use mathlib.Core.List.{List, _∷_}
 use Prim.Native.Nat.{ℕ, _+_, _-_, _*_, _%_, _≤_, _<_}
 use lib.ListN.{length, getD, take, drop, replicate}
 use Rattle.lists.specs.Run.{run}
-use Rattle.field.specs.Poly.{p, Below, value, piece, Through, One}
+use Rattle.prime.specs.Prime.{p, Below}
+use Rattle.field.specs.Poly.{value, piece, Through, One}
 use Rattle.field.specs.Hiding.{Matched, Hidden, Gives}
 use Rattle.field.specs.Pieces.{values, Random, Paired, GivesValues}
 use Rattle.field.specs.Joined.{joined}
-use Rattle.field.specs.Inverse.{inverse}
+use Rattle.prime.specs.Inverse.{inverse}
 use Rattle.field.specs.Lagrange.{Weights, weightsOf}
 use Rattle.field.specs.Added.{added}
 use Rattle.field.specs.Secret.{column, secretOf}
-
--- 32749 has no divisor but 1 and itself.
-abbrev pub NoDivisor : Type 0
-NoDivisor = (m : ℕ) → 1 < m → m < p → p % m ≢ 0
-
--- Every number that p does not divide has its inverse, which is one of 0 to 32748.
-abbrev pub InverseRight : Type 0
-InverseRight = (a : ℕ) → a % p ≢ 0 → (a * inverse a % p ≡ 1) × (inverse a < p)
 
 -- "taken in order from the lent randomness: those of word 1 first, then word 2": with q coefficients for each, word i has those after the
 -- first (i−1)·q.

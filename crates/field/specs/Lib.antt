@@ -2,7 +2,6 @@ pub mod Poly
 pub mod Hiding
 pub mod Pieces
 pub mod Joined
-pub mod Inverse
 pub mod Lagrange
 pub mod Added
 pub mod Secret

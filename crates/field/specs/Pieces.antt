@@ -5,7 +5,8 @@ use mathlib.Core.Logic.{_≢_}
 use mathlib.Core.List.{List, [], _∷_}
 use Prim.Native.Nat.{ℕ, _-_, _*_, _≤_}
 use lib.ListN.{length, take, drop}
-use Rattle.field.specs.Poly.{Below, piece}
+use Rattle.prime.specs.Prime.{Below}
+use Rattle.field.specs.Poly.{piece}
 use Rattle.field.specs.Hiding.{Hidden, Gives}
 
 -- the values of piece j, one for each secret word of ds: for each there are q coefficients "taken in order from the lent randomness: those

@@ -2,17 +2,10 @@
 -- Assumes nothing.
 use mathlib.Core.Path.{_≡_}
 use mathlib.Core.List.{List, [], _∷_}
-use Prim.Native.Nat.{ℕ, _+_, _-_, _*_, _%_, _≤_, _<_}
+use Prim.Native.Nat.{ℕ, _+_, _-_, _*_, _%_, _≤_}
 use lib.ListN.{length, getD}
+use Rattle.prime.specs.Prime.{p, Below}
 use Rattle.lists.specs.Run.{run}
-
--- "prime p | 32749"
-abbrev pub p : ℕ
-p = 32749
-
--- each number of the list is one of 0 to 32748 (past its end a list reads 0)
-pub record Below (cs : List ℕ) : Type 0 where
-  pub each : (i : ℕ) → getD cs i 0 < p
 
 -- c₀ + c₁·x + c₂·x² + ..: the value at x of the polynomial with these coefficients, the lowest first, not reduced
 unfoldable pub value : List ℕ → ℕ → ℕ

@@ -4,10 +4,11 @@ ghost use mathlib.Core.Path.{_≡_};
 ghost use mathlib.Core.List.{_∷_};
 ghost use Prim.Native.Nat.{_*_, _%_, _<_, _≤_};
 ghost use lib.ListN.{length, take};
-ghost use Rattle.field.specs.Poly.{p, Below, value, piece};
+ghost use Rattle.prime.specs.Prime.{p, Below};
+ghost use Rattle.field.specs.Poly.{value, piece};
 ghost use Rattle.field.specs.Pieces.{values};
 ghost use Rattle.field.specs.Joined.{joined};
-ghost use Rattle.field.specs.Inverse.{inverse};
+ghost use Rattle.prime.specs.Inverse.{inverse};
 ghost use Rattle.field.specs.Lagrange.{lagrangeWeight, Weights, weightsOf};
 
 // v, or its remainder where v is above 2^47: one turn of Horner's rule more, times at most 65535 and plus at most 32748, then fits.

@@ -3,6 +3,6 @@ fn main() {
     let mut pile = [0u8; 65537];
     let size = io::read_full(0, &mut pile);
     let mut out = [0u8; 128];
-    let count = joined::joined_line(&pile[..size], &mut out);
+    let count = joined_line::joined_line(&pile[..size], &mut out);
     io::write_all(1, &out[..count]);
 }

@@ -12,10 +12,10 @@ use lib.Dec.{eqb}
 use borrow.Author.Tests.{eq-eqb, eqb-true, not-false}
 use Rattle.answer.specs.Outcome.{done, refused}
 use Rattle.answer.specs.Checks.{firstFail}
-use Rattle.answer.specs.Places.{firstIn, found}
-use Rattle.answer.specs.Laws.{IsFirst}
-use Rattle.answer.proofs.Truth.{never, isn't, both, and-no}
-use Rattle.answer.proofs.FirstLaws.{none-in, first-all, first-of, is-first, has-test, below-end, found-some, found-none, none-found}
+use Rattle.lists.specs.Places.{firstIn, found}
+use Rattle.lists.specs.Laws.{IsFirst}
+use Rattle.lists.proofs.Truth.{never, isn't, both, and-no}
+use Rattle.lists.proofs.FirstLaws.{none-in, first-all, first-of, is-first, has-test, below-end, found-some, found-none, none-found}
 use Rattle.pile.specs.Blocks.{blocks, In, firstBlock}
 use Rattle.joining.specs.Pile.{width, pieceAt, hasPiece, placeOf, valueOf, differIn}
 use Rattle.joining.specs.Checks.{contradicts, contradictedBy, conflictAt, conflict}

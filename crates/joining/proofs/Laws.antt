@@ -4,7 +4,7 @@ use mathlib.Core.List.{_++_}
 use Prim.Native.Nat.{ℕ}
 use native.Mathlib.Omega.{arith}
 use lib.ListN.{length, drop}
-use Rattle.answer.specs.Lent.{over}
+use Rattle.lists.specs.Over.{over}
 use Rattle.answer.proofs.LentLaws as lent
 use Rattle.field.proofs.SecretLaws.{secret-length}
 use Rattle.joining.specs.Pile.{pieceCount, width, valueAt}

@@ -5,7 +5,8 @@ use mathlib.Core.List.{List}
 use Prim.Native.Nat.{ℕ, _+_, _%_, _≤_}
 use native.Mathlib.Omega.{arith}
 use lib.ListN.{length}
-use Rattle.field.specs.Poly.{p, value}
+use Rattle.prime.specs.Prime.{p}
+use Rattle.field.specs.Poly.{value}
 use Rattle.field.specs.Joined.{joined}
 use Rattle.lists.proofs.RunLaws.{run-is}
 use Rattle.block.specs.declared.deal.DealWords.{DealWords}

@@ -8,12 +8,12 @@ use native.Mathlib.Omega.{arith}
 use lib.Dec.{eqb, ltb}
 use lib.ListN.{length}
 use borrow.Author.Tests.{eqb-false, ltb-false}
-use Rattle.answer.specs.Places.{found}
+use Rattle.lists.specs.Places.{found}
 use Rattle.answer.specs.Laws.{Passed}
-use Rattle.answer.proofs.Truth.{neither}
+use Rattle.lists.proofs.Truth.{neither}
 use Rattle.answer.proofs.CheckLaws.{passed, passed-append}
-use Rattle.answer.proofs.FirstLaws.{some-found, none-found}
-use Rattle.answer.proofs.ThoseLaws.{those-few, those-all}
+use Rattle.lists.proofs.FirstLaws.{some-found, none-found}
+use Rattle.lists.proofs.ThoseLaws.{those-few, those-all}
 use Rattle.pile.specs.Blocks.{blocks}
 use Rattle.pile.specs.Lines.{everyBlock}
 use Rattle.pile.proofs.LineLaws.{blocks-true}

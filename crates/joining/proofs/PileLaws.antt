@@ -7,7 +7,7 @@ use native.Mathlib.Nat.{le-refl}
 use native.Mathlib.Omega.{arith}
 use lib.Dec.{eqb}
 use borrow.Author.Tests.{eq-eqb, ne-eqb, not-false}
-use Rattle.answer.proofs.FirstLaws.{none-in}
+use Rattle.lists.proofs.FirstLaws.{none-in}
 use Rattle.block.specs.declared.deal.DealWords.{DealWords}
 use Rattle.block.specs.Deals.{sameDeal}
 use Rattle.block.specs.Laws.{Ranges}

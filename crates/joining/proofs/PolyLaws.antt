@@ -5,7 +5,8 @@ use mathlib.Core.List.{List}
 use Prim.Native.Nat.{ℕ, _-_, _%_, _≤_}
 use native.Mathlib.Omega.{arith}
 use lib.ListN.{getD}
-use Rattle.field.specs.Poly.{p, value, Through, One}
+use Rattle.prime.specs.Prime.{p}
+use Rattle.field.specs.Poly.{value, Through, One}
 use Rattle.field.specs.Secret.{column}
 use Rattle.field.proofs.SecretLaws.{column-length, column-at}
 use Rattle.field.proofs.Laws.{secret-one}

@@ -9,9 +9,9 @@ use lib.ListN.{length, set, drop, take}
 use lib.Seq.{take-at}
 use Rattle.lists.specs.Run.{run}
 use Rattle.lists.proofs.RunLaws.{run-length, run-end}
-use Rattle.answer.specs.Lent.{over}
-use Rattle.answer.proofs.LentLaws.{over-more}
-use Rattle.field.specs.Poly.{p}
+use Rattle.lists.specs.Over.{over}
+use Rattle.lists.proofs.OverLaws.{over-more}
+use Rattle.prime.specs.Prime.{p}
 use Rattle.field.specs.Secret.{column}
 use Rattle.field.proofs.SecretLaws.{column-length}
 use Rattle.pile.proofs.PileLaws.{word-small}

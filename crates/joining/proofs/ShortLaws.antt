@@ -14,10 +14,10 @@ use Rattle.lists.specs.Run.{run}
 use Rattle.lists.proofs.RunLaws.{run-at}
 use Rattle.answer.specs.Outcome.{Outcome, refused}
 use Rattle.answer.specs.Checks.{firstFail}
-use Rattle.answer.specs.Places.{firstFrom, found, those}
-use Rattle.answer.proofs.Truth.{or-r}
-use Rattle.answer.proofs.FirstLaws.{found-some, found-none}
-use Rattle.answer.proofs.ThoseLaws.{those-same, count-hit, count-miss}
+use Rattle.lists.specs.Places.{firstFrom, found, those}
+use Rattle.lists.proofs.Truth.{or-r}
+use Rattle.lists.proofs.FirstLaws.{found-some, found-none}
+use Rattle.lists.proofs.ThoseLaws.{those-same, count-hit, count-miss}
 use Rattle.block.specs.Words.{wordAt}
 use Rattle.pile.specs.Blocks.{blocks, restFrom}
 use Rattle.pile.specs.Lines.{linesFrom, everyBlock}

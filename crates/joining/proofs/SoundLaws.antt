@@ -11,11 +11,11 @@ use lib.ListN.{length}
 use borrow.Author.Tests.{eq-eqb, eqb-true, le-ltb, ltb-false}
 use Rattle.answer.specs.Outcome.{Outcome, done, refused}
 use Rattle.answer.specs.Checks.{firstFail}
-use Rattle.answer.specs.Places.{found}
-use Rattle.answer.proofs.Truth.{never}
+use Rattle.lists.specs.Places.{found}
+use Rattle.lists.proofs.Truth.{never}
 use Rattle.answer.proofs.CheckLaws.{given, not-given, append-lines, passed, passed-one, passed-done, passed-append, done-passed}
-use Rattle.answer.proofs.FirstLaws.{none-in, first-all, has-test, first-of, found-some, found-none, none-found}
-use Rattle.answer.proofs.ThoseLaws.{those-few, those-all, those-full}
+use Rattle.lists.proofs.FirstLaws.{none-in, first-all, has-test, first-of, found-some, found-none, none-found}
+use Rattle.lists.proofs.ThoseLaws.{those-few, those-all, those-full}
 use Rattle.block.specs.Deals.{sameDeal}
 use Rattle.block.proofs.DealLaws.{deal-same}
 use Rattle.pile.specs.Blocks.{blocks, In, dealAt}

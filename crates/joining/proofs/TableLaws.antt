@@ -8,12 +8,12 @@ use native.Mathlib.Decide.{ℕ-discrete}
 use lib.ListN.{length, getD, set, length-set, replicate, length-replicate, getD-replicate}
 use lib.Seq.{getD-set-same, getD-set-other}
 use borrow.Author.Tests.{eq-eqb, ne-eqb}
-use Rattle.answer.specs.Places.{firstFrom, firstIn}
+use Rattle.lists.specs.Places.{firstFrom, firstIn}
 use Rattle.pile.specs.Blocks.{blocks}
 use Rattle.joining.specs.Pile.{pieceAt, hasPiece, placeOf}
 use Rattle.lists.specs.Run.{run}
 use Rattle.lists.proofs.RunLaws.{run-length, run-at, run-is}
-use Rattle.answer.proofs.FirstLaws.{miss-end, kept-end, hit-end, below-end}
+use Rattle.lists.proofs.FirstLaws.{miss-end, kept-end, hit-end, below-end}
 
 -- the table with the blocks before block a looked at
 unfoldable pub tableTo : List ℕ → ℕ → List ℕ

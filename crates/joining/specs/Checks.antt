@@ -7,7 +7,7 @@ use lib.ListN.{length}
 use lib.Dec.{eqb, ltb}
 use Rattle.answer.specs.declared.Kind.the-variants.{Mixed, Conflict, Short}
 use Rattle.answer.specs.Checks.{Line, line}
-use Rattle.answer.specs.Places.{firstIn, found}
+use Rattle.lists.specs.Places.{firstIn, found}
 use Rattle.block.specs.Deals.{sameDeal}
 use Rattle.pile.specs.Blocks.{blocks, dealAt, firstBlock}
 use Rattle.pile.specs.Lines.{tornPile, longPile, everyBlock}

@@ -6,8 +6,9 @@ use mathlib.Core.Logic.{_≢_}
 use mathlib.Core.List.{List, _++_}
 use lib.ListN.{length, getD, drop}
 use Rattle.answer.specs.Outcome.{done, refused}
-use Rattle.answer.specs.Places.{found}
-use Rattle.field.specs.Poly.{p, value, Below, One}
+use Rattle.lists.specs.Places.{found}
+use Rattle.prime.specs.Prime.{p, Below}
+use Rattle.field.specs.Poly.{value, One}
 use Rattle.pile.specs.Blocks.{blocks, word, dealAt, firstBlock, TrueBlocks, In}
 use Rattle.joining.specs.Pile.{pieceCount, width, pieceAt, placeOf, valueOf, differIn, present}
 use Rattle.joining.specs.Checks.{contradictedBy, conflictAt}

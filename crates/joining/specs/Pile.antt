@@ -4,7 +4,7 @@ use Prim.Native.Nat.{ℕ, _+_}
 use mathlib.Core.Bool.{Bool, not}
 use mathlib.Core.List.{List}
 use lib.Dec.{eqb}
-use Rattle.answer.specs.Places.{firstIn, found, those}
+use Rattle.lists.specs.Places.{firstIn, found, those}
 use Rattle.block.specs.declared.deal.DealWords.{DealWords}
 use Rattle.block.specs.Layout.{pieceOf}
 use Rattle.pile.specs.Blocks.{restFrom, word, dealAt, firstBlock}

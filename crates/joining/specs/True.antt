@@ -3,7 +3,7 @@ use Prim.Native.Nat.{ℕ, _≤_}
 use mathlib.Core.Path.{_≡_}
 use mathlib.Core.Bool.{Bool}
 use mathlib.Core.List.{List}
-use Rattle.answer.specs.Places.{found, at}
+use Rattle.lists.specs.Places.{found, at}
 use Rattle.pile.specs.Blocks.{blocks, In, dealAt, TrueBlocks}
 use Rattle.joining.specs.Pile.{ownDeal, pieceCount, placeOf}
 

@@ -9,7 +9,7 @@ ghost use lib.ListN.{length};
 ghost use Rattle.lists.specs.Run.{run};
 ghost use Rattle.answer.specs.Outcome.{outcome, done};
 ghost use Rattle.answer.specs.Checks.{firstFail};
-ghost use Rattle.answer.specs.Places.{those};
+ghost use Rattle.lists.specs.Places.{those};
 ghost use Rattle.pile.specs.Blocks.{blocks, In, TrueBlocks};
 ghost use Rattle.joining.specs.Pile.{ownDeal, width, placeOf, differIn};
 ghost use Rattle.joining.specs.Checks.{mixedAt, conflict, wholeLines, pileLines};

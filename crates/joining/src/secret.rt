@@ -4,7 +4,7 @@ ghost use mathlib.Core.Path.{_≡_};
 ghost use Prim.Native.Nat.{_≤_};
 ghost use lib.ListN.{length};
 ghost use Rattle.lists.specs.Run.{run};
-ghost use Rattle.answer.specs.Lent.{over};
+ghost use Rattle.lists.specs.Over.{over};
 ghost use Rattle.field.specs.Joined.{joined};
 ghost use Rattle.field.specs.Lagrange.{Weights};
 ghost use Rattle.field.specs.Secret.{column};

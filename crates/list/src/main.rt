@@ -3,6 +3,6 @@ fn main() {
     let mut text = [0u8; 16385];
     let size = io::read_full(0, &mut text);
     let mut out = [0u8; 4113];
-    let count = text::listing(&text[..size], &mut out);
+    let count = listing::listing(&text[..size], &mut out);
     io::write_all(1, &out[..count]);
 }

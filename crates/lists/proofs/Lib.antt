@@ -1,1 +1,10 @@
+pub mod Truth
+pub mod FirstLaws
+pub mod AheadLaws
+pub mod ThoseLaws
 pub mod RunLaws
+pub mod SomeLaws
+pub mod EachLaws
+pub mod FlatLaws
+pub mod OverLaws
+pub mod Laws

@@ -1,1 +1,6 @@
+pub mod Places
 pub mod Run
+pub mod Some
+pub mod Flat
+pub mod Over
+pub mod Laws

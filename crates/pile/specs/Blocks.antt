@@ -4,7 +4,7 @@ use Prim.Native.Nat.{ℕ, _+_, _-_, _*_, _/_, _≤_}
 use mathlib.Core.Bool.{Bool}
 use mathlib.Core.List.{List}
 use lib.ListN.{length, drop}
-use Rattle.answer.specs.Places.{firstIn}
+use Rattle.lists.specs.Places.{firstIn}
 use Rattle.block.specs.declared.deal.DealWords.{DealWords}
 use Rattle.block.specs.Words.{wordAt}
 use Rattle.block.specs.Deals.{dealWords}

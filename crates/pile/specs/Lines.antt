@@ -6,7 +6,7 @@ use lib.ListN.{length}
 use lib.Dec.{ltb}
 use Rattle.answer.specs.declared.Kind.the-variants.{Torn, Long}
 use Rattle.answer.specs.Checks.{Line, line}
-use Rattle.answer.specs.Places.{found}
+use Rattle.lists.specs.Places.{found}
 use Rattle.block.specs.Open.{blockLines}
 use Rattle.pile.specs.Blocks.{blocks, restFrom}
 

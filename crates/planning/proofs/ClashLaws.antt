@@ -12,17 +12,18 @@ use borrow.Author.Tests.{not-true, eqb-false}
 use Rattle.answer.specs.declared.Kind.the-variants.{Clash}
 use Rattle.answer.specs.Outcome.{Outcome, refused, number}
 use Rattle.answer.specs.Checks.{Line, pick, firstFail}
-use Rattle.answer.specs.Places.{firstPlace, found, at}
-use Rattle.answer.specs.Laws.{Passed, IsFirst}
+use Rattle.lists.specs.Places.{firstPlace, found, at}
+use Rattle.answer.specs.Laws.{Passed}
+use Rattle.lists.specs.Laws.{IsFirst}
 use Rattle.answer.proofs.CheckLaws.{given, not-given, append-lines, never-both, passed, passed-none, passed-one, passed-done}
-use Rattle.answer.proofs.FirstLaws.{first-of, place-most, place-has}
+use Rattle.lists.proofs.FirstLaws.{first-of, place-most, place-has}
 use Rattle.planning.specs.Sets.{inside}
 use Rattle.planning.specs.Groups.{authorised, groups}
 use Rattle.planning.specs.Policy.{Policy}
 use Rattle.planning.specs.Planned.{people, long, strangers, nobody, opens, aroundPlace, clashPlace, clash, wide, listLines, planLines, planned}
 use Rattle.planning.specs.Laws.{Listed, Suits, Clashes, ClashFamilies, ClashPlaces}
-use Rattle.answer.proofs.Truth.{decided, isn't, surely}
-use Rattle.planning.proofs.SomeLaws.{some-place}
+use Rattle.lists.proofs.Truth.{decided, isn't, surely}
+use Rattle.lists.proofs.SomeLaws.{some-place}
 use Rattle.planning.proofs.FamilyLaws.{clash-none, authorised-suits}
 use Rattle.planning.proofs.ListedLaws.{listed}
 use Rattle.planning.proofs.PlannedLaws.{afterLists, end}

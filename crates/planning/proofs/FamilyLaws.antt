@@ -3,14 +3,14 @@
 use mathlib.Core.Path.{_≡_, sym, _∙_}
 use mathlib.Core.Bool.{true, false}
 use Prim.Native.Nat.{ℕ}
-use Rattle.answer.specs.Places.{found}
+use Rattle.lists.specs.Places.{found}
 use Rattle.planning.specs.Sets.{inside}
 use Rattle.planning.specs.Groups.{authorised}
 use Rattle.planning.specs.Policy.{Policy}
 use Rattle.planning.specs.Planned.{aroundPlace, clashPlace, clash}
 use Rattle.planning.specs.Laws.{Listed, Suits}
-use Rattle.answer.proofs.Truth.{never}
-use Rattle.planning.proofs.SomeLaws.{some-in, in-some, some-place, none-found}
+use Rattle.lists.proofs.Truth.{never}
+use Rattle.lists.proofs.SomeLaws.{some-in, in-some, some-place, none-found}
 use Rattle.planning.proofs.HoldingLaws.{authorised-more, authorised-required}
 
 module _ (p : Policy) (l : Listed p) where

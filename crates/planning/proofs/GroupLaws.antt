@@ -12,12 +12,13 @@ use lib.ListN.{length, set, length-set}
 use lib.Pow.{pow-mono}
 use lib.Seq.{getD-set-same, getD-set-other}
 use borrow.Author.Count.{below-none, below-more}
-use Rattle.answer.proofs.ThoseLaws.{those-same}
-use Rattle.planning.specs.Sets.{worth, member, each}
+use Rattle.lists.proofs.ThoseLaws.{those-same}
+use Rattle.planning.specs.Sets.{worth, member}
+use Rattle.lists.specs.Some.{each}
 use Rattle.planning.specs.Groups.{tight, maximalBy, groupsBy}
 use Rattle.planning.specs.Flags.{Flags, flagged}
-use Rattle.answer.proofs.Truth.{never, isn't, and-both, or-cases, or-l, or-r}
-use Rattle.planning.proofs.EachLaws.{each-at, each-same}
+use Rattle.lists.proofs.Truth.{never, isn't, and-both, or-cases, or-l, or-r}
+use Rattle.lists.proofs.EachLaws.{each-at, each-same}
 use Rattle.planning.proofs.SetLaws.{next-bit, bit-next, back, more-lt, person-lt}
 
 -- ---- the people, one after the other: those up to i are in the group or make it authorised, and the next is worth w

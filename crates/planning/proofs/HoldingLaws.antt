@@ -8,13 +8,14 @@ use Prim.Native.Nat.{ℕ, zero, suc, _+_, _-_, _^_, _≤_, _<_, zero-le}
 use native.Mathlib.Omega.{arith}
 use lib.ListN.{getD}
 use lib.Pow.{pow-pos}
-use Rattle.answer.proofs.ThoseLaws.{at-in, in-at, in-those, those-in, those-rise}
+use Rattle.lists.proofs.ThoseLaws.{at-in, in-at, in-those, those-in, those-rise}
 use Rattle.planning.specs.Sets.{worth, member, inside}
-use Rattle.planning.specs.Groups.{_∈_, authorised, tight, maximalBy, maximal, groupsBy, groups, pieceCount, groupOf, holds, held}
-use Rattle.answer.proofs.Truth.{never, decided, isn't, surely, both, and-both, neither, not-so, so-not}
-use Rattle.planning.proofs.EachLaws.{each-fails}
+use Rattle.lists.specs.Some.{_∈_}
+use Rattle.planning.specs.Groups.{authorised, tight, maximalBy, maximal, groupsBy, groups, pieceCount, groupOf, holds, held}
+use Rattle.lists.proofs.Truth.{never, decided, isn't, surely, both, and-both, neither, not-so, so-not}
+use Rattle.lists.proofs.EachLaws.{each-fails}
 use Rattle.planning.proofs.SetLaws.{back, member-le, inside-at, inside-fails, inside-refl, inside-trans, inside-more, inside-empty, group-small, person-lt}
-use Rattle.planning.proofs.SomeLaws.{some-in, in-some}
+use Rattle.lists.proofs.SomeLaws.{some-in, in-some}
 
 -- ---- authorised groups
 pub authorised-more : (required : List ℕ) (g h : ℕ) → authorised required g ≡ true → inside g h ≡ true → authorised required h ≡ true

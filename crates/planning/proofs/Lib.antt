@@ -1,6 +1,4 @@
-pub mod EachLaws
 pub mod SetLaws
-pub mod SomeLaws
 pub mod LoopLaws
 pub mod GroupLaws
 pub mod HoldingLaws

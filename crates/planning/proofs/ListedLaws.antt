@@ -10,8 +10,8 @@ use Rattle.planning.specs.Sets.{stranger}
 use Rattle.planning.specs.Policy.{Policy}
 use Rattle.planning.specs.Planned.{people, long, strangers, nobody, opens, listLines}
 use Rattle.planning.specs.Laws.{Listed}
-use Rattle.answer.proofs.Truth.{neither}
-use Rattle.planning.proofs.SomeLaws.{none-found}
+use Rattle.lists.proofs.Truth.{neither}
+use Rattle.lists.proofs.SomeLaws.{none-found}
 
 pub listed : (p : Policy) → Passed (listLines p) → Listed p
 unfolding listLines people long strangers nobody opens stranger

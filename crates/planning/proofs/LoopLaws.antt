@@ -8,7 +8,7 @@ use native.Mathlib.Numerals.{add-one}
 use native.Mathlib.Omega.{arith}
 use lib.ListN.{length, getD, drop}
 use lib.Seq.{drop-cons, drop-length}
-use Rattle.planning.specs.Groups.{some}
+use Rattle.lists.specs.Some.{some}
 
 -- ---- whether some set has the test
 pub record SomeAhead (test : ℕ → Bool) (l : List ℕ) (i : ℕ) : Type 0 where

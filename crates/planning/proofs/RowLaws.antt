@@ -8,8 +8,8 @@ use native.Mathlib.Nat.{not-suc-le-zero, le-of-suc-le-suc}
 use native.Mathlib.Omega.{arith}
 use lib.ListN.{length, getD, List·getD-append, set, replicate, length-append, length-map}
 use lib.Seq.{set-at}
-use Rattle.answer.specs.Places.{those}
-use Rattle.answer.proofs.ThoseLaws.{those-miss, those-hit, count-miss, count-hit, those-more}
+use Rattle.lists.specs.Places.{those}
+use Rattle.lists.proofs.ThoseLaws.{those-miss, those-hit, count-miss, count-hit, those-more}
 use Rattle.planning.specs.Sets.{member, marks}
 use Rattle.planning.specs.Groups.{rowsOf, marked}
 

@@ -13,8 +13,8 @@ use lib.Pow.{pow-pos, pow-mono, shr-shr}
 use lib.Bits.{bitAnd, and-step, and-shr, and-zero-r}
 use borrow.Author.Tests.{eq-eqb, eqb-true, eqb-false, ne-eqb, le-leb, leb-true}
 use Rattle.planning.specs.Sets.{worth, member, inside, stranger}
-use Rattle.answer.proofs.Truth.{never, decided, surely, or-cases, or-l, or-r, neither, not-so, so-not}
-use Rattle.planning.proofs.EachLaws.{each-at, each-of, each-fails}
+use Rattle.lists.proofs.Truth.{never, decided, surely, or-cases, or-l, or-r, neither, not-so, so-not}
+use Rattle.lists.proofs.EachLaws.{each-at, each-of, each-fails}
 
 -- ---- binary digits: bit p is the digit worth 2 ^ p
 abbrev bit : ℕ → ℕ → ℕ

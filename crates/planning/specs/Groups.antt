@@ -1,21 +1,12 @@
 -- Document 01, "From lists to holdings". A list holds sets; a group is a set of the n people, a number below 2 ^ n.
 -- Assumes nothing.
 use mathlib.Core.Bool.{Bool, false, not, _&&_, _||_}
-use mathlib.Core.List.{List, [], _∷_, _++_, map, List·Memᴰ}
+use mathlib.Core.List.{List, [], _++_, map}
 use Prim.Native.Nat.{ℕ, _+_, _-_, _^_}
 use lib.ListN.{length, getD, replicate}
-use Rattle.answer.specs.Places.{at, those}
-use Rattle.planning.specs.Sets.{worth, member, each, inside, marks}
-
--- the set s stands in the list
-infix 4 _∈_
-abbrev pub _∈_ : ℕ → List ℕ → Type 0
-s ∈ l = List·Memᴰ s l
-
--- the test holds of some set of the list
-unfoldable pub some : (ℕ → Bool) → List ℕ → Bool
-some test [] = false
-some test (s ∷ l) = test s || some test l
+use Rattle.lists.specs.Places.{at, those}
+use Rattle.planning.specs.Sets.{worth, member, inside, marks}
+use Rattle.lists.specs.Some.{each, some}
 
 -- "A group is authorised exactly when it contains some required set. Every other group is unauthorised."
 unfoldable pub authorised : List ℕ → ℕ → Bool

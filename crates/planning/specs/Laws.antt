@@ -8,11 +8,13 @@ use Prim.Native.Nat.{ℕ, _+_, _^_, _≤_, _<_}
 use lib.ListN.{length}
 use Rattle.answer.specs.declared.Kind.the-variants.{Clash}
 use Rattle.answer.specs.Outcome.{done, refused, number, outcome}
-use Rattle.answer.specs.Places.{at}
-use Rattle.answer.specs.Laws.{Passed, IsFirst}
+use Rattle.lists.specs.Places.{at}
+use Rattle.answer.specs.Laws.{Passed}
+use Rattle.lists.specs.Laws.{IsFirst}
 use Rattle.planning.specs.declared.table.Plan.{Plan}
 use Rattle.planning.specs.Sets.{member, inside, stranger}
-use Rattle.planning.specs.Groups.{_∈_, some, authorised, maximal, pieceCount, groupOf, holds, held, marked}
+use Rattle.lists.specs.Some.{_∈_, some}
+use Rattle.planning.specs.Groups.{authorised, maximal, pieceCount, groupOf, holds, held, marked}
 use Rattle.planning.specs.Policy.{Policy, policyOf}
 use Rattle.planning.specs.Planned.{listLines, planned, plannedRows}
 

@@ -8,7 +8,7 @@ use lib.ListN.{length}
 use Rattle.answer.specs.declared.Kind.the-variants.{People, LongList, Stranger, Nobody, Open, Clash, Wide}
 use Rattle.answer.specs.Outcome.{Outcome, done, refused}
 use Rattle.answer.specs.Checks.{Line, line, firstFail}
-use Rattle.answer.specs.Places.{firstPlace, found, at}
+use Rattle.lists.specs.Places.{firstPlace, found, at}
 use Rattle.planning.specs.Sets.{inside, stranger}
 use Rattle.planning.specs.Policy.{Policy}
 use Rattle.planning.specs.Groups.{groups, pieceCount, rowsOf}

@@ -1,9 +1,10 @@
 -- Sets of people: "A set is a 16-bit number: person i is worth 2^(i−1)." People are numbered from 1.
 -- Assumes nothing.
-use mathlib.Core.Bool.{Bool, true, not, _&&_, _||_}
+use mathlib.Core.Bool.{Bool, not, _||_}
 use mathlib.Core.List.{List, [], _∷_}
-use Prim.Native.Nat.{ℕ, zero, suc, _-_, _/_, _%_, _^_}
+use Prim.Native.Nat.{ℕ, _-_, _/_, _%_, _^_}
 use lib.Dec.{eqb, leb}
+use Rattle.lists.specs.Some.{each}
 
 -- what person i is worth
 abbrev pub worth : ℕ → ℕ
@@ -12,11 +13,6 @@ worth i = 2 ^ (i - 1)
 -- person i is in the set s
 unfoldable pub member : ℕ → ℕ → Bool
 member i s = eqb (s / worth i % 2) 1
-
--- the test holds of each of the numbers 1 to c
-unfoldable pub each : ℕ → (ℕ → Bool) → Bool
-each zero test = true
-each (suc c) test = each c test && test (suc c)
 
 -- the set a lies inside the set b, equality included: each person of a is in b
 unfoldable pub inside : ℕ → ℕ → Bool

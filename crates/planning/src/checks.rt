@@ -9,7 +9,7 @@ ghost use Prim.Native.Nat.{_≤_};
 ghost use lib.Dec.{eqb};
 ghost use Rattle.answer.specs.Outcome.{outcome, done};
 ghost use Rattle.answer.specs.Checks.{firstFail};
-ghost use Rattle.answer.specs.Places.{firstPlace};
+ghost use Rattle.lists.specs.Places.{firstPlace};
 ghost use Rattle.planning.specs.Sets.{stranger};
 ghost use Rattle.planning.specs.Policy.{policyOf};
 ghost use Rattle.planning.specs.Planned.{aroundPlace, clashPlace, clash, listLines};

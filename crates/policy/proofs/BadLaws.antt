@@ -12,7 +12,7 @@ use lib.Seq.{drop-drop, getD-drop}
 use Rattle.answer.specs.declared.Kind.the-variants.{Text}
 use Rattle.answer.specs.Outcome.{done, refused, number}
 use Rattle.answer.specs.Checks.{firstFail}
-use Rattle.answer.proofs.FirstLaws.{first-hit, none-in, first-all}
+use Rattle.lists.proofs.FirstLaws.{first-hit, none-in, first-all}
 use Rattle.policy.specs.declared.Found.the-variants.{Nothing}
 use Rattle.policy.specs.Policy.{lines, lineLength, lineOf, peopleIn, lineSays, isNothing, isBad, badAt, badLine, policyIn, readPolicy}
 use Rattle.policy.proofs.LinesLaws.{line-split}

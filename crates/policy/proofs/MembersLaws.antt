@@ -8,10 +8,11 @@ use native.Mathlib.Nat.{pow-le-pow-right, two-pow-succ, mod-eq-of-lt}
 use native.Mathlib.Omega.{arith}
 use Prim.Native.Nat.{ℕ, suc, _+_, _-_, _%_, _^_, _≤_, _<_}
 use lib.Dec.{eqb, ltb, leb}
-use Rattle.answer.specs.Places.{those}
-use Rattle.answer.proofs.Truth.{both}
-use Rattle.planning.specs.Sets.{member, each}
-use Rattle.planning.proofs.EachLaws.{each-at}
+use Rattle.lists.specs.Places.{those}
+use Rattle.lists.proofs.Truth.{both}
+use Rattle.planning.specs.Sets.{member}
+use Rattle.lists.specs.Some.{each}
+use Rattle.lists.proofs.EachLaws.{each-at}
 use Rattle.print.specs.Decimal.{digit, digits}
 use Rattle.print.specs.Lines.{spaced, spacedAll, feed}
 use Rattle.policy.specs.declared.Found.the-variants.{Number, Nothing}

@@ -10,8 +10,8 @@ use lib.ListN.{length, take, drop, set, replicate, length-append, length-drop}
 use lib.Seq.{take-all, take-append-le, length-take-le, set-at}
 use Rattle.answer.specs.declared.Kind.the-variants.{Text}
 use Rattle.answer.specs.Outcome.{done, refused, number}
-use Rattle.answer.specs.Places.{firstIn}
-use Rattle.answer.proofs.FirstLaws.{first-hit, first-miss, first-none}
+use Rattle.lists.specs.Places.{firstIn}
+use Rattle.lists.proofs.FirstLaws.{first-hit, first-miss, first-none}
 use Rattle.planning.specs.Policy.{policyOf}
 use Rattle.policy.specs.declared.Sets.{Sets}
 use Rattle.policy.specs.declared.Found.the-variants.{Number}

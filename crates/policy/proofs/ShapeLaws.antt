@@ -10,9 +10,9 @@ use Prim.Native.Nat.{ℕ, suc, _-_, _≤_, _<_}
 use lib.Dec.{eqb, leb}
 use lib.ListN.{length, drop, getD}
 use Rattle.answer.specs.Outcome.{done}
-use Rattle.answer.proofs.FirstLaws.{none-in, none-found}
+use Rattle.lists.proofs.FirstLaws.{none-in, none-found}
 use Rattle.answer.proofs.CheckLaws.{done-passed, passed}
-use Rattle.answer.proofs.Truth.{never, both}
+use Rattle.lists.proofs.Truth.{never, both}
 use Rattle.print.specs.Decimal.{digit}
 use Rattle.print.specs.Lines.{feed}
 use Rattle.policy.specs.declared.Found.{Found}

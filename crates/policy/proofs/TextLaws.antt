@@ -11,8 +11,8 @@ use lib.ListN.{length}
 use Rattle.answer.specs.declared.Kind.the-variants.{Text}
 use Rattle.answer.specs.Outcome.{refused, number}
 use Rattle.answer.proofs.CheckLaws.{never-both}
-use Rattle.answer.proofs.FirstLaws.{first-of, has-test, below-end}
-use Rattle.answer.proofs.Truth.{never}
+use Rattle.lists.proofs.FirstLaws.{first-of, has-test, below-end}
+use Rattle.lists.proofs.Truth.{never}
 use Rattle.print.proofs.DecimalLaws.{below}
 use Rattle.policy.specs.Policy.{lines, lineOf, peopleIn, lineSays, isNothing, isBad, badAt, badLine, readPolicy}
 use Rattle.policy.specs.Laws.{PeopleLine, EntryLine, WellWritten, FirstBad, TextRefusal, TextLong, TextLine}

@@ -9,10 +9,11 @@ use Prim.Native.Nat.{ℕ, zero, suc, _+_, _-_, _≤_, _<_}
 use lib.Dec.{eqb}
 use lib.ListN.{length, getD}
 use Rattle.answer.specs.Outcome.{done}
-use Rattle.answer.specs.Places.{those}
-use Rattle.planning.specs.Sets.{member, each}
-use Rattle.answer.proofs.Truth.{both}
-use Rattle.planning.proofs.EachLaws.{each-at}
+use Rattle.lists.specs.Places.{those}
+use Rattle.planning.specs.Sets.{member}
+use Rattle.lists.specs.Some.{each}
+use Rattle.lists.proofs.Truth.{both}
+use Rattle.lists.proofs.EachLaws.{each-at}
 use Rattle.print.specs.Decimal.{digits}
 use Rattle.print.specs.Lines.{spaced, spacedAll, feed}
 use Rattle.policy.specs.declared.Found.{Found}

@@ -7,7 +7,7 @@ use Prim.Native.Nat.{ℕ, _≤_, _<_, _^_}
 use lib.ListN.{length}
 use Rattle.answer.specs.declared.Kind.the-variants.{Text}
 use Rattle.answer.specs.Outcome.{Outcome, done, refused, number}
-use Rattle.answer.specs.Places.{those}
+use Rattle.lists.specs.Places.{those}
 use Rattle.planning.specs.Sets.{member}
 use Rattle.planning.specs.Policy.{Policy, policyOf}
 use Rattle.print.specs.Decimal.{digit}

@@ -9,7 +9,7 @@ use lib.ListN.{length, take, drop, getD, replicate}
 use Rattle.answer.specs.declared.Kind.the-variants.{Text}
 use Rattle.answer.specs.Outcome.{Outcome, done, refused, outcome}
 use Rattle.answer.specs.Checks.{line, firstFail}
-use Rattle.answer.specs.Places.{firstIn, found}
+use Rattle.lists.specs.Places.{firstIn, found}
 use Rattle.planning.specs.Sets.{worth}
 use Rattle.planning.specs.Policy.{Policy, policyOf}
 use Rattle.policy.specs.declared.Found.{Found}

@@ -4,7 +4,7 @@ use mathlib.Core.Path.{_≡_}
 use mathlib.Core.List.{List, _++_}
 use Prim.Native.Nat.{ℕ, _+_, _≤_}
 use lib.ListN.{length, take, drop}
-use Rattle.answer.specs.Lent.{over}
+use Rattle.lists.specs.Over.{over}
 
 -- `new` written over `old` from index `at` on; the rest stays
 unfoldable pub written : ℕ → List ℕ → List ℕ → List ℕ

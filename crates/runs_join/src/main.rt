@@ -15,7 +15,7 @@ fn show(k: usize) {
     let size = io::read_full(file, &mut pile);
     libc::close(file);
     let mut out = [0u8; 128];
-    let count = joined::joined_line(&pile[..size], &mut out);
+    let count = joined_line::joined_line(&pile[..size], &mut out);
     io::write_all(1, &path[..n]);
     io::write_all(1, b": ");
     io::write_all(1, &out[..count]);

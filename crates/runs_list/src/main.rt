@@ -15,7 +15,7 @@ fn show(k: usize) {
     let size = io::read_full(file, &mut text);
     libc::close(file);
     let mut out = [0u8; 4113];
-    let count = text::listing(&text[..size], &mut out);
+    let count = listing::listing(&text[..size], &mut out);
     io::write_all(1, &path[..n]);
     io::write_all(1, b": ");
     io::write_all(1, &out[..count]);

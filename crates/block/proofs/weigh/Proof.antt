@@ -10,9 +10,6 @@ use Rattle.block.proofs.weigh.Tie as tie
 term : (c : tie.Start) → c .args .i * c .args .v ≤ 255 * 32748
 term c = mul-le-mul (c .pre .1 .1) (c .pre .0)
 
-cast-result : tie.Need-cast-result
-cast-result c = search needs
-
 mul-result : tie.Need-mul-result
 mul-result c = omega (arith, term c)
 
@@ -23,4 +20,4 @@ returns : tie.Need-returns
 returns c = (refl, omega (arith, term c))
 
 pub weigh-spec : {M : Type 1} → statement M
-weigh-spec = tie.close (tie.spec cast-result mul-result add-result returns)
+weigh-spec = tie.close (tie.spec (λ c. search needs) mul-result add-result returns)

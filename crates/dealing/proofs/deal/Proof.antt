@@ -10,21 +10,6 @@ use Rattle.dealing.proofs.DealLaws.{refused-deal, refused-out, plan-giv
 use Rattle.dealing.proofs.deal.Statement.{statement}
 use Rattle.dealing.proofs.deal.Tie as tie
 
-plan-requires : tie.Need-plan-requires
-plan-requires c κs = search needs
-
-answer-of-requires : tie.Need-answer-of-requires
-answer-of-requires c κs = search needs
-
-enum-known-r : tie.Need-enum-known-r
-enum-known-r c = search needs
-
-enum-known-k : tie.Need-enum-known-k
-enum-known-k c = search needs
-
-rows-of-requires : tie.Need-rows-of-requires
-rows-of-requires c κs = search needs
-
 -- the deal that is asked for
 abbrev asked : tie.Start → Deal
 asked s =
@@ -50,9 +35,6 @@ returns c =
     let e = sym (o .before .plan .ensures .0) ∙ ap outcome (sym (o .answer-of .ensures) ∙ c .before .r .given .1) in
     (refused-deal (asked s) _ _ _ e (s .args .holder) _, refused-out (asked s) _ _ _ e (s .args .holder) (s .args .out .now))
 
-same-length : tie.Need-same-length
-same-length c = search needs
-
 returns-2 : tie.Need-returns-2
 returns-2 c =
     let w = c .before .before .deal-planned in
@@ -67,12 +49,12 @@ pub deal-spec : {M : Type 1} → statement M
 deal-spec =
     tie.close
     (tie.spec
-    plan-requires
-    answer-of-requires
-    enum-known-r
-    enum-known-k
-    rows-of-requires
+    (λ c κs. search needs)
+    (λ c κs. search needs)
+    (λ c. search needs)
+    (λ c. search needs)
+    (λ c κs. search needs)
     deal-planned-requires
     returns
-    same-length
+    (λ c. search needs)
     returns-2)

@@ -26,15 +26,6 @@ blocks s = length (heldIn (s .args .rows .now) (s .args .asked .holder) (s .args
 abbrev last : tie.Start → List Line
 last s = noRoom (512 * blocks s) (blocks s) (length (s .args .out .now)) ∷ []
 
-sub-check-inputs : tie.Need-sub-check-inputs
-sub-check-inputs c = search needs
-
-check-inputs-requires : tie.Need-check-inputs-requires
-check-inputs-requires c κs = search needs
-
-enum-known-r : tie.Need-enum-known-r
-enum-known-r c = search needs
-
 enum-told : tie.Need-enum-told
 enum-told c = search needs
 
@@ -51,9 +42,6 @@ returns c =
     let s = m .before .before .before .before .before in
     (stops (lines s) (m .before .check-inputs .ensures) (last s) (done (blocks s)) (c .before .r .given .1), refl)
 
-same-length : tie.Need-same-length
-same-length c = search needs
-
 returns-2 : tie.Need-returns-2
 returns-2 c =
     let w = c .before .before .write-card in
@@ -66,11 +54,11 @@ pub deal-planned-spec : {M : Type 1} → statement M
 deal-planned-spec =
     tie.close
     (tie.spec
-    sub-check-inputs
-    check-inputs-requires
-    enum-known-r
+    (λ c. search needs)
+    (λ c κs. search needs)
+    (λ c. search needs)
     enum-told
     write-card-requires
     returns
-    same-length
+    (λ c. search needs)
     returns-2)

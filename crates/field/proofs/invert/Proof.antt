@@ -4,9 +4,9 @@ use mathlib.Core.Path.{_≡_, subst}
 use Prim.Native.Nat.{ℕ, _*_, _/_, _<_}
 use native.Mathlib.Omega.{arith}
 use native.Mathlib.Nat.{mod-lt, div-le-self, sub-le, le-of-lt, mul-le-mul}
-use Rattle.field.specs.Poly.{p}
-use Rattle.field.proofs.Mod.{_≈_}
-use Rattle.field.proofs.Prime.{no-divisor, inverse-one, remainder}
+use Rattle.prime.specs.Prime.{p}
+use Rattle.prime.proofs.Mod.{_≈_}
+use Rattle.prime.proofs.Prime.{no-divisor, inverse-one, remainder}
 use Rattle.field.proofs.invert.Statement.{statement}
 use Rattle.field.proofs.invert.Tie as tie
 
@@ -19,17 +19,11 @@ abbrev μ-loop : tie.MeasureT-loop
 loop-holds : tie.Need-loop-holds Inv-loop μ-loop
 loop-holds c = omega (arith, c .pre)
 
-div-q : tie.Need-div-q Inv-loop μ-loop
-div-q c = omega arith
-
 sub-s : tie.Need-sub-s Inv-loop μ-loop
 sub-s c = div-le-self p (c .before .loop .r)
 
 mul-s : tie.Need-mul-s Inv-loop μ-loop
 mul-s c = omega (arith, c .before .loop .inv, mul-le-mul (le-of-lt (c .before .loop .inv .2)) (sub-le p (p / c .before .loop .r)))
-
-rem-r : tie.Need-rem-r Inv-loop μ-loop
-rem-r c = omega arith
 
 loop-less : tie.Need-loop-less Inv-loop μ-loop
 loop-less c = mod-lt p (c .before .loop .inv .0)
@@ -42,9 +36,6 @@ loop-again c =
       omega arith,
       remainder (c .before .before .args .a) (l .r) (l .s) (l .inv .3),
     )
-
-cast-result : tie.Need-cast-result Inv-loop μ-loop
-cast-result c = omega arith
 
 returns : tie.Need-returns Inv-loop μ-loop
 returns c =
@@ -60,11 +51,11 @@ invert-spec =
     Inv-loop
     μ-loop
     loop-holds
-    div-q
+    (λ c. omega arith)
     sub-s
     mul-s
-    rem-r
+    (λ c. omega arith)
     loop-less
     loop-again
-    cast-result
+    (λ c. omega arith)
     returns)

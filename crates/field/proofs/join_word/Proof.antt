@@ -22,20 +22,8 @@ product c =
     let s = c .before .before in
     product-most (s .args .pieces .now) (s .args .weights .now) (c .before .loop .i) (omega arith) (s .pre .1 .0) (s .pre .1 .1)
 
-mul-sum : tie.Need-mul-sum Inv-loop μ-loop
-mul-sum c = omega arith
-
-shared-slice-read-sum : tie.Need-shared-slice-read-sum Inv-loop μ-loop
-shared-slice-read-sum c = omega arith
-
 cast-sum : tie.Need-cast-sum Inv-loop μ-loop
 cast-sum c = omega (arith, c .shared-slice-known .given (c .before .before .loop .i))
-
-mul-sum-2 : tie.Need-mul-sum-2 Inv-loop μ-loop
-mul-sum-2 c = omega arith
-
-element-copy-out-sum : tie.Need-element-copy-out-sum Inv-loop μ-loop
-element-copy-out-sum c = omega arith
 
 cast-sum-2 : tie.Need-cast-sum-2 Inv-loop μ-loop
 cast-sum-2 c =
@@ -49,12 +37,6 @@ mul-sum-3 c = omega (arith, product (c .before .before))
 add-sum : tie.Need-add-sum Inv-loop μ-loop
 add-sum c = omega (arith, product (c .before .before), c .before .before .before .loop .inv .1 .most)
 
-add-i : tie.Need-add-i Inv-loop μ-loop
-add-i c = omega arith
-
-loop-less : tie.Need-loop-less Inv-loop μ-loop
-loop-less c = omega arith
-
 loop-again : tie.Need-loop-again Inv-loop μ-loop
 loop-again c =
     let l = c .before .before .before .loop in
@@ -62,9 +44,6 @@ loop-again c =
       omega arith,
       summed-turn (s .args .pieces .now) (s .args .weights .now) (l .i) (l .sum) (omega arith) (s .pre .1 .0) (s .pre .1 .1) (l .inv .1),
     )
-
-cast-result : tie.Need-cast-result Inv-loop μ-loop
-cast-result c = omega arith
 
 returns : tie.Need-returns Inv-loop μ-loop
 returns c =
@@ -79,16 +58,16 @@ join-word-spec =
     Inv-loop
     μ-loop
     loop-holds
-    mul-sum
-    shared-slice-read-sum
+    (λ c. omega arith)
+    (λ c. omega arith)
     cast-sum
-    mul-sum-2
-    element-copy-out-sum
+    (λ c. omega arith)
+    (λ c. omega arith)
     cast-sum-2
     mul-sum-3
     add-sum
-    add-i
-    loop-less
+    (λ c. omega arith)
+    (λ c. omega arith)
     loop-again
-    cast-result
+    (λ c. omega arith)
     returns)

@@ -24,13 +24,10 @@ mul-result c = omega (arith, product c)
 add-result : tie.Need-add-result
 add-result c = omega (arith, product c)
 
-cast-result : tie.Need-cast-result
-cast-result c = search needs
-
 returns : tie.Need-returns
 returns c =
     let a = c .before .before .args in
     last-turn (a .d) (a .coefficients .now) (a .j) (c .value-at .result) (c .value-at .ensures)
 
 pub piece-of-spec : {M : Type 1} → statement M
-piece-of-spec = tie.close (tie.spec value-at-requires mul-result add-result cast-result returns)
+piece-of-spec = tie.close (tie.spec value-at-requires mul-result add-result (λ c. search needs) returns)

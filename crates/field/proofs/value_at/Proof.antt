@@ -6,8 +6,9 @@ use native.Mathlib.Omega.{arith}
 use native.Mathlib.Nat.{le-refl, mul-le-mul}
 use borrow.Author.Needs.{needs}
 use lib.ListN.{length, getD, drop}
-use Rattle.field.specs.Poly.{p, value}
-use Rattle.field.proofs.Mod.{_≈_, _then_}
+use Rattle.prime.specs.Prime.{p}
+use Rattle.field.specs.Poly.{value}
+use Rattle.prime.proofs.Mod.{_≈_, _then_}
 use Rattle.field.proofs.Horner.{horner-start, horner}
 use Rattle.field.proofs.value_at.Statement.{statement}
 use Rattle.field.proofs.value_at.Tie as tie
@@ -23,12 +24,6 @@ loop-holds c =
     let a = c .before .args in
     (le-refl (length (a .coefficients .now)), horner-start (a .coefficients .now) (a .x))
 
-sub-i : tie.Need-sub-i Inv-loop μ-loop
-sub-i c = omega arith
-
-lower-requires : tie.Need-lower-requires Inv-loop μ-loop
-lower-requires c κs = search needs
-
 product : (c : tie.After-lower Inv-loop μ-loop) → c .lower .result * c .before .before .before .before .args .x ≤ 140737488355328 * 65535
 product c =
     let b : c .before .before .before .before .args .x ≤ 65535 = omega arith in
@@ -40,20 +35,11 @@ coefficient c = c .before .before .before .before .pre .each (c .before .before 
 mul-acc : tie.Need-mul-acc Inv-loop μ-loop
 mul-acc c = omega (arith, product c)
 
-mul-acc-2 : tie.Need-mul-acc-2 Inv-loop μ-loop
-mul-acc-2 c = omega arith
-
-shared-slice-read-acc : tie.Need-shared-slice-read-acc Inv-loop μ-loop
-shared-slice-read-acc c = omega arith
-
 cast-acc : tie.Need-cast-acc Inv-loop μ-loop
 cast-acc c = omega (arith, coefficient (c .before))
 
 add-acc : tie.Need-add-acc Inv-loop μ-loop
 add-acc c = omega (arith, product (c .before), coefficient (c .before))
-
-loop-less : tie.Need-loop-less Inv-loop μ-loop
-loop-less c = omega arith
 
 loop-again : tie.Need-loop-again Inv-loop μ-loop
 loop-again c =
@@ -62,9 +48,6 @@ loop-again c =
     let a = t .before .before .before .before .args in
     let same : t .lower .result ≈ l .acc = record { same = t .lower .ensures .0 } in
     (omega arith, horner (a .coefficients .now) (a .x) (l .i) (t .lower .result) (omega arith) (l .inv .0) (same then l .inv .1))
-
-cast-result : tie.Need-cast-result Inv-loop μ-loop
-cast-result c = search needs
 
 returns : tie.Need-returns Inv-loop μ-loop
 returns c =
@@ -80,14 +63,14 @@ value-at-spec =
     Inv-loop
     μ-loop
     loop-holds
-    sub-i
-    lower-requires
+    (λ c. omega arith)
+    (λ c κs. search needs)
     mul-acc
-    mul-acc-2
-    shared-slice-read-acc
+    (λ c. omega arith)
+    (λ c. omega arith)
     cast-acc
     add-acc
-    loop-less
+    (λ c. omega arith)
     loop-again
-    cast-result
+    (λ c. search needs)
     returns)

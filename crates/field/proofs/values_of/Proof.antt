@@ -24,12 +24,6 @@ enough c =
 loop-holds : tie.Need-loop-holds Inv-loop μ-loop
 loop-holds c = valued-start _ _ _ _ _ refl
 
-mul-d : tie.Need-mul-d Inv-loop μ-loop
-mul-d c = omega arith
-
-shared-slice-read-d : tie.Need-shared-slice-read-d Inv-loop μ-loop
-shared-slice-read-d c = omega arith
-
 mul-at : tie.Need-mul-at Inv-loop μ-loop
 mul-at c = omega (arith, enough (c .before))
 
@@ -55,18 +49,6 @@ piece-of-requires c κs =
     let at = l .loop .i * a .args .q in
     coefficients-below (a .args .secret .now) (a .args .random .now) (l .loop .i) (at + a .args .q - at) at (a .pre .1 .0) (a .pre .1 .1)
 
-mul-made : tie.Need-mul-made Inv-loop μ-loop
-mul-made c = omega arith
-
-array-write-made : tie.Need-array-write-made Inv-loop μ-loop
-array-write-made c = omega arith
-
-add-i : tie.Need-add-i Inv-loop μ-loop
-add-i c = omega arith
-
-loop-less : tie.Need-loop-less Inv-loop μ-loop
-loop-less c = omega arith
-
 loop-again : tie.Need-loop-again Inv-loop μ-loop
 loop-again c =
     let l = c .before .before .before .before in
@@ -89,8 +71,8 @@ values-of-spec =
     Inv-loop
     μ-loop
     loop-holds
-    mul-d
-    shared-slice-read-d
+    (λ c. omega arith)
+    (λ c. omega arith)
     mul-at
     add-end
     mul-piece-of
@@ -98,9 +80,9 @@ values-of-spec =
     part-piece-of-start
     part-piece-of-end
     piece-of-requires
-    mul-made
-    array-write-made
-    add-i
-    loop-less
+    (λ c. omega arith)
+    (λ c. omega arith)
+    (λ c. omega arith)
+    (λ c. omega arith)
     loop-again
     returns)

@@ -6,10 +6,10 @@ use native.Mathlib.Omega.{arith}
 use native.Mathlib.Nat.{mul-le-mul}
 use mir.Syntax.{w64}
 use mir.Val.{Fits}
-use Rattle.field.specs.Poly.{p}
-use Rattle.field.specs.Inverse.{inverse}
+use Rattle.prime.specs.Prime.{p}
+use Rattle.prime.specs.Inverse.{inverse}
 use Rattle.field.specs.Lagrange.{product, lagrangeWeight}
-use Rattle.field.proofs.Prime.{inverse-below}
+use Rattle.prime.proofs.Prime.{inverse-below}
 use Rattle.field.proofs.Products.{product-small, product-skip, product-turn, product-apart}
 use Rattle.field.proofs.weight_of.Statement.{statement}
 use Rattle.field.proofs.weight_of.Tie as tie
@@ -35,23 +35,11 @@ small-below c = omega (arith, c .loop .inv .2, product-small (c .before .args .j
 fits : (f b : ℕ) → f ≤ 32819 → b ≤ 32748 → Fits w64 (f * b)
 fits f b h k = omega (arith, mul-le-mul h k)
 
-add-i : tie.Need-add-i Inv-loop μ-loop
-add-i c = omega arith
-
 mul-above : tie.Need-mul-above Inv-loop μ-loop
 mul-above c = fits _ _ (omega arith) (small-above (c .before .before))
 
-sub-below : tie.Need-sub-below Inv-loop μ-loop
-sub-below c = omega arith
-
-add-below : tie.Need-add-below Inv-loop μ-loop
-add-below c = omega arith
-
 mul-below : tie.Need-mul-below Inv-loop μ-loop
 mul-below c = fits _ _ (omega arith) (small-below (c .before .before))
-
-loop-less : tie.Need-loop-less Inv-loop μ-loop
-loop-less c = omega arith
 
 loop-again : tie.Need-loop-again Inv-loop μ-loop
 loop-again c =
@@ -61,9 +49,6 @@ loop-again c =
       product-turn j 0 (l .i) _ (l .above) (c .if1 .taken) (omega arith) (l .inv .1),
       product-turn j j (l .i) _ (l .below) (c .if1 .taken) (omega arith) (l .inv .2),
     )
-
-loop-less-2 : tie.Need-loop-less-2 Inv-loop μ-loop
-loop-less-2 c = omega arith
 
 loop-again-2 : tie.Need-loop-again-2 Inv-loop μ-loop
 loop-again-2 c =
@@ -79,16 +64,10 @@ invert-requires c κs =
     let j = c .before .before .args .j in
     subst (λ (x : ℕ). 0 < x % p) (sym (c .before .loop .inv .2)) (product-apart j j (c .before .loop .i) (omega arith) (omega arith) (λ i a b f. f))
 
-cast-result : tie.Need-cast-result Inv-loop μ-loop
-cast-result c = omega arith
-
 mul-result : tie.Need-mul-result Inv-loop μ-loop
 mul-result c =
     let b : c .invert .result ≤ 32748 = omega (arith, c .invert .ensures, inverse-below (c .before .before .loop .below)) in
     fits _ _ (omega (arith, small-above (c .before .before))) b
-
-cast-result-2 : tie.Need-cast-result-2 Inv-loop μ-loop
-cast-result-2 c = omega arith
 
 returns : tie.Need-returns Inv-loop μ-loop
 unfolding lagrangeWeight
@@ -105,18 +84,18 @@ weight-of-spec =
     Inv-loop
     μ-loop
     loop-holds
-    add-i
+    (λ c. omega arith)
     mul-above
-    sub-below
-    add-below
+    (λ c. omega arith)
+    (λ c. omega arith)
     mul-below
-    loop-less
+    (λ c. omega arith)
     loop-again
-    loop-less-2
+    (λ c. omega arith)
     loop-again-2
     cast-invert
     invert-requires
-    cast-result
+    (λ c. omega arith)
     mul-result
-    cast-result-2
+    (λ c. omega arith)
     returns)

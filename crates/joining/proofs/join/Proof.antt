@@ -44,12 +44,6 @@ left1 c room =
     let p = f .before .before .before .args .pile .now in
     goes-on (pileLines p) (f .check-pile .ensures) (last p room) (done (width p)) (c .enum-told .given .1)
 
-check-pile-requires : tie.Need-check-pile-requires
-check-pile-requires c κs = search needs
-
-enum-known-r : tie.Need-enum-known-r
-enum-known-r c = search needs
-
 returns : tie.Need-returns
 unfolding joining joinLines joinedInto
 returns c =
@@ -64,17 +58,8 @@ enum-told c = search needs
 own-deal-requires : tie.Need-own-deal-requires
 own-deal-requires c κs = past-pile c .unmixed .some
 
-cast-k : tie.Need-cast-k
-cast-k c = search needs
-
-cast-w : tie.Need-cast-w
-cast-w c = search needs
-
 w-is : (c : tie.After-own-deal) → c .own-deal .result .width ≡ width (c .before .before .before .before .before .before .args .pile .now)
 w-is c = ap (λ (d : DealWords). d .width) (c .own-deal .ensures)
-
-refuse-requires : tie.Need-refuse-requires
-refuse-requires c κs = search needs
 
 returns-2 : tie.Need-returns-2
 unfolding joinedInto
@@ -99,9 +84,6 @@ write-secret-requires c κs =
     let o = i .before .before .before in
     (past-pile (o .before), ((ap (λ (d : DealWords). d .pieces) (o .own-deal .ensures), w-is o), (subst (Weights _) (sym (t .weights .ensures)) (weights-are _), i .if1 .left)))
 
-same-length : tie.Need-same-length
-same-length c = search needs
-
 returns-3 : tie.Need-returns-3
 unfolding joinedInto
 returns-3 c =
@@ -118,16 +100,16 @@ pub join-spec : {M : Type 1} → statement M
 join-spec =
     tie.close
     (tie.spec
-    check-pile-requires
-    enum-known-r
+    (λ c κs. search needs)
+    (λ c. search needs)
     returns
     enum-told
     own-deal-requires
-    cast-k
-    cast-w
-    refuse-requires
+    (λ c. search needs)
+    (λ c. search needs)
+    (λ c κs. search needs)
     returns-2
     weights-requires
     write-secret-requires
-    same-length
+    (λ c. search needs)
     returns-3)

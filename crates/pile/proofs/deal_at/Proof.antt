@@ -11,9 +11,6 @@ use borrow.Author.Needs.{needs}
 use Rattle.pile.proofs.deal_at.Statement.{statement}
 use Rattle.pile.proofs.deal_at.Tie as tie
 
-sub-deal-words : tie.Need-sub-deal-words
-sub-deal-words c = search needs
-
 mul-deal-words : tie.Need-mul-deal-words
 unfolding blocks
 mul-deal-words c = omega arith
@@ -25,9 +22,6 @@ sub-deal-words-2 c = omega arith
 part-deal-words-start : tie.Need-part-deal-words-start
 unfolding blocks
 part-deal-words-start c = search needs
-
-part-deal-words-end : tie.Need-part-deal-words-end
-part-deal-words-end c = search needs
 
 deal-words-requires : tie.Need-deal-words-requires
 unfolding blocks
@@ -44,4 +38,4 @@ returns c =
 pub deal-at-spec : {M : Type 1} → statement M
 deal-at-spec =
     tie.close
-    (tie.spec sub-deal-words mul-deal-words sub-deal-words-2 part-deal-words-start part-deal-words-end deal-words-requires returns)
+    (tie.spec (λ c. search needs) mul-deal-words sub-deal-words-2 part-deal-words-start (λ c. search needs) deal-words-requires returns)

@@ -11,9 +11,6 @@ use borrow.Author.Needs.{needs}
 use Rattle.pile.proofs.word.Statement.{statement}
 use Rattle.pile.proofs.word.Tie as tie
 
-sub-word : tie.Need-sub-word
-sub-word c = search needs
-
 mul-word : tie.Need-mul-word
 unfolding blocks
 mul-word c = omega arith
@@ -25,9 +22,6 @@ sub-word-2 c = omega arith
 part-word-start : tie.Need-part-word-start
 unfolding blocks
 part-word-start c = search needs
-
-part-word-end : tie.Need-part-word-end
-part-word-end c = search needs
 
 word-requires : tie.Need-word-requires
 unfolding blocks
@@ -44,4 +38,4 @@ returns c =
 pub word-spec : {M : Type 1} → statement M
 word-spec =
     tie.close
-    (tie.spec sub-word mul-word sub-word-2 part-word-start part-word-end word-requires returns)
+    (tie.spec (λ c. search needs) mul-word sub-word-2 part-word-start (λ c. search needs) word-requires returns)

@@ -17,15 +17,6 @@ passed : (c : tie.After-enum-told2) →
     Clear (policyOf (s .args .people) (s .args .required .now) (s .args .forbidden .now))
 passed c = clear _ (c .before .before .before .before .before .check-lists .ensures) (c .before .before .before .enum-told .given .1) (c .before .before .check-clash .ensures) (c .enum-told2 .given .1)
 
-check-lists-requires : tie.Need-check-lists-requires
-check-lists-requires c κs = search needs
-
-enum-known-r : tie.Need-enum-known-r
-enum-known-r c = search needs
-
-plan-of-requires : tie.Need-plan-of-requires
-plan-of-requires c κs = search needs
-
 returns : tie.Need-returns
 returns c =
     refused-plan _ (lists-refuse _ (c .before .before .before .before .check-lists .ensures) (c .before .before .r .given .1)) (c .plan-of .ensures .0) (c .plan-of .ensures .1 ∙ empty-rows)
@@ -33,23 +24,11 @@ returns c =
 enum-told : tie.Need-enum-told
 enum-told c = search needs
 
-check-clash-requires : tie.Need-check-clash-requires
-check-clash-requires c κs = search needs
-
-enum-known-r-2 : tie.Need-enum-known-r-2
-enum-known-r-2 c = search needs
-
-plan-of-requires-2 : tie.Need-plan-of-requires-2
-plan-of-requires-2 c κs = search needs
-
 returns-2 : tie.Need-returns-2
 returns-2 c =
     refused-plan _
     (clash-refuse _ (c .before .before .before .before .before .before .before .check-lists .ensures) (c .before .before .before .before .before .enum-told .given .1) (c .before .before .before .before .check-clash .ensures) (c .before .before .r2 .given .1))
     (c .plan-of2 .ensures .0) (c .plan-of2 .ensures .1 ∙ empty-rows)
-
-enum-told-2 : tie.Need-enum-told-2
-enum-told-2 c = search needs
 
 flags-requires : tie.Need-flags-requires
 flags-requires c κs = passed c .listed-so .few
@@ -67,16 +46,16 @@ pub plan-spec : {M : Type 1} → statement M
 plan-spec =
     tie.close
     (tie.spec
-    check-lists-requires
-    enum-known-r
-    plan-of-requires
+    (λ c κs. search needs)
+    (λ c. search needs)
+    (λ c κs. search needs)
     returns
     enum-told
-    check-clash-requires
-    enum-known-r-2
-    plan-of-requires-2
+    (λ c κs. search needs)
+    (λ c. search needs)
+    (λ c κs. search needs)
     returns-2
-    enum-told-2
+    (λ c. search needs)
     flags-requires
     fill-requires
     returns-3)

@@ -4,15 +4,6 @@ use borrow.Author.Needs.{needs}
 use Rattle.policy.proofs.keep.Statement.{statement}
 use Rattle.policy.proofs.keep.Tie as tie
 
-mul-sets : tie.Need-mul-sets
-mul-sets c = search needs
-
-array-write-sets : tie.Need-array-write-sets
-array-write-sets c = search needs
-
-add-t6 : tie.Need-add-t6
-add-t6 c = search needs
-
 returns : tie.Need-returns
 returns c = λ sets k. kept-more sets (c .before .before .args .set) (c .before .before .args .list) (c .if1 .taken) k
 
@@ -20,4 +11,4 @@ returns-2 : tie.Need-returns-2
 returns-2 c = λ sets k. kept-full sets (c .before .before .args .set) (c .before .before .args .list) (c .if1 .left) k
 
 pub keep-spec : {M : Type 1} → statement M
-keep-spec = tie.close (tie.spec mul-sets array-write-sets add-t6 returns returns-2)
+keep-spec = tie.close (tie.spec (λ c. search needs) (λ c. search needs) (λ c. search needs) returns returns-2)

@@ -20,12 +20,6 @@ abbrev μ-loop : tie.MeasureT-loop
 loop-holds : tie.Need-loop-holds Inv-loop μ-loop
 loop-holds c = (refl, omega arith, omega arith, omega arith)
 
-shared-slice-read-b : tie.Need-shared-slice-read-b Inv-loop μ-loop
-shared-slice-read-b c = omega arith
-
-sub-if1 : tie.Need-sub-if1 Inv-loop μ-loop
-sub-if1 c = omega arith
-
 returns : tie.Need-returns Inv-loop μ-loop
 returns c =
     let s = c .before .before .before .before .before .before in
@@ -44,12 +38,6 @@ returns-3 c =
     let l = c .before .before .before .before .loop in
     sym (no-space (now (s .args .line)) (l .last) (l .set) (l .i) (omega arith) (c .if3 .taken)) ∙ l .inv .0
 
-add-digit : tie.Need-add-digit Inv-loop μ-loop
-add-digit c = omega arith
-
-shared-slice-read-digit : tie.Need-shared-slice-read-digit Inv-loop μ-loop
-shared-slice-read-digit c = omega arith
-
 returns-4 : tie.Need-returns-4 Inv-loop μ-loop
 returns-4 c =
     let s = c .before .before .before .before .before .before .before .before in
@@ -62,18 +50,6 @@ returns-5 c =
     let l = c .before .before .before .before .before .before .before .loop in
     sym (no-digit (now (s .args .line)) (l .last) (l .set) (l .i) (omega arith) (c .before .before .before .if3 .left) (c .before .if4 .left) (c .if5 .taken))
     ∙ l .inv .0
-
-worth-requires : tie.Need-worth-requires Inv-loop μ-loop
-worth-requires c κs = omega arith
-
-add-set : tie.Need-add-set Inv-loop μ-loop
-add-set c = omega arith
-
-add-i : tie.Need-add-i Inv-loop μ-loop
-add-i c = omega arith
-
-loop-less : tie.Need-loop-less Inv-loop μ-loop
-loop-less c = omega arith
 
 loop-again : tie.Need-loop-again Inv-loop μ-loop
 loop-again c =
@@ -100,18 +76,18 @@ read-members-spec =
     Inv-loop
     μ-loop
     loop-holds
-    shared-slice-read-b
-    sub-if1
+    (λ c. omega arith)
+    (λ c. omega arith)
     returns
     returns-2
     returns-3
-    add-digit
-    shared-slice-read-digit
+    (λ c. omega arith)
+    (λ c. omega arith)
     returns-4
     returns-5
-    worth-requires
-    add-set
-    add-i
-    loop-less
+    (λ c κs. omega arith)
+    (λ c. omega arith)
+    (λ c. omega arith)
+    (λ c. omega arith)
     loop-again
     returns-6)

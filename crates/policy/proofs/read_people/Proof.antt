@@ -16,12 +16,6 @@ start c = c .before .before .before .before
 word : (c : tie.Else1) → begins peopleWord (now (start c .args .line)) ≡ true
 word c = sym (c .before .begins .ensures) ∙ not-false _ (c .if1 .left)
 
-slice-aggregate-begins : tie.Need-slice-aggregate-begins
-slice-aggregate-begins c = search needs
-
-begins-requires : tie.Need-begins-requires
-begins-requires c κs = search needs
-
 returns : tie.Need-returns
 returns c =
     let l = now (c .before .before .before .before .args .line) in
@@ -31,9 +25,6 @@ returns-2 : tie.Need-returns-2
 returns-2 c =
     let e = c .before in
     sym (people-long (now (start e .args .line)) (word e) (c .if2 .taken))
-
-shared-slice-read-digit : tie.Need-shared-slice-read-digit
-shared-slice-read-digit c = search needs
 
 returns-3 : tie.Need-returns-3
 returns-3 c =
@@ -45,16 +36,10 @@ returns-4 c =
     let e = c .before .before .before .before in
     sym (digit-high (now (start e .args .line)) (word e) (omega arith) (omega arith) (c .if4 .taken))
 
-shared-slice-read-if5 : tie.Need-shared-slice-read-if5
-shared-slice-read-if5 c = search needs
-
 returns-5 : tie.Need-returns-5
 returns-5 c =
     let e = c .before .before .before .before .before .before in
     sym (no-feed (now (start e .args .line)) (word e) (omega arith) (omega arith) (omega arith) (c .if5 .taken))
-
-cast-t12 : tie.Need-cast-t12
-cast-t12 c = search needs
 
 returns-6 : tie.Need-returns-6
 returns-6 c =
@@ -65,14 +50,14 @@ pub read-people-spec : {M : Type 1} → statement M
 read-people-spec =
     tie.close
     (tie.spec
-    slice-aggregate-begins
-    begins-requires
+    (λ c. search needs)
+    (λ c κs. search needs)
     returns
     returns-2
-    shared-slice-read-digit
+    (λ c. search needs)
     returns-3
     returns-4
-    shared-slice-read-if5
+    (λ c. search needs)
     returns-5
-    cast-t12
+    (λ c. search needs)
     returns-6)

@@ -29,26 +29,11 @@ said c =
     let e : lineLength text ≡ c .before .before .line-end .result = omega (arith, end-is (c .before .before)) in
     ap peopleIn (first-line text .0) ∙ ap (λ (k : ℕ). peopleIn (take k text)) e ∙ sym (c .read-people .ensures)
 
-unreadable-requires : tie.Need-unreadable-requires
-unreadable-requires c κs = search needs
-
 returns : tie.Need-returns
 returns c = rw (too-long (now (c .before .before .before .args .text)) (c .before .if1 .taken)) (c .unreadable .ensures)
 
-line-end-requires : tie.Need-line-end-requires
-line-end-requires c κs = search needs
-
 slice-aggregate-read-people : tie.Need-slice-aggregate-read-people
 slice-aggregate-read-people c = sym (length-take-le _ _ (end-inside (c .before)))
-
-read-people-requires : tie.Need-read-people-requires
-read-people-requires c κs = search needs
-
-enum-known-people : tie.Need-enum-known-people
-enum-known-people c = search needs
-
-cast-read-sets : tie.Need-cast-read-sets
-cast-read-sets c = search needs
 
 read-sets-requires : tie.Need-read-sets-requires
 read-sets-requires c κs =
@@ -57,9 +42,6 @@ read-sets-requires c κs =
 
 enum-told : tie.Need-enum-told
 enum-told c = search needs
-
-unreadable-requires-2 : tie.Need-unreadable-requires-2
-unreadable-requires-2 c κs = search needs
 
 returns-2 : tie.Need-returns-2
 returns-2 c = c .read-sets .ensures
@@ -74,15 +56,15 @@ pub read-policy-spec : {M : Type 1} → statement M
 read-policy-spec =
     tie.close
     (tie.spec
-    unreadable-requires
+    (λ c κs. search needs)
     returns
-    line-end-requires
+    (λ c κs. search needs)
     slice-aggregate-read-people
-    read-people-requires
-    enum-known-people
-    cast-read-sets
+    (λ c κs. search needs)
+    (λ c. search needs)
+    (λ c. search needs)
     read-sets-requires
     enum-told
-    unreadable-requires-2
+    (λ c κs. search needs)
     returns-2
     returns-3)

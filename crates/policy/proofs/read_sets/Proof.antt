@@ -46,12 +46,6 @@ said c =
     let e : line-of c .line-end .result - at ≡ lineLength (drop at text) = omega (arith, end-is (line-of c)) in
     c .read-line .ensures ∙ ap (λ (k : ℕ). lineSays (take k (drop at text))) e
 
-no-sets-requires : tie.Need-no-sets-requires Inv-loop μ-loop
-no-sets-requires c κs = search needs
-
-no-sets-requires-2 : tie.Need-no-sets-requires-2 Inv-loop μ-loop
-no-sets-requires-2 c κs = search needs
-
 loop-holds : tie.Need-loop-holds Inv-loop μ-loop
 loop-holds c =
     let p = c .before .before .before .pre in
@@ -69,15 +63,6 @@ part-read-line-start c = omega (arith, end-is c)
 part-read-line-end : tie.Need-part-read-line-end Inv-loop μ-loop
 part-read-line-end c = omega (arith, end-is c, end-inside c)
 
-read-line-requires : tie.Need-read-line-requires Inv-loop μ-loop
-read-line-requires c κs = search needs
-
-enum-known-set : tie.Need-enum-known-set Inv-loop μ-loop
-enum-known-set c = search needs
-
-keep-requires : tie.Need-keep-requires Inv-loop μ-loop
-keep-requires c κs = search needs
-
 add-line : tie.Need-add-line Inv-loop μ-loop
 add-line c = omega (arith, c .before .before .before .before .before .before .before .before .loop .inv .numbered)
 
@@ -90,12 +75,6 @@ loop-again c =
     rw (end-is (line-of r))
     (going-need (looped r .loop .inv) (inside r) _ (sym (said r) ∙ c .before .before .set .given .1)
     (c .keep .ensures (looped r .loop .inv .needs) (looped r .loop .inv .required-so-far)))
-
-enum-known-set-2 : tie.Need-enum-known-set-2 Inv-loop μ-loop
-enum-known-set-2 c = search needs
-
-keep-requires-2 : tie.Need-keep-requires-2 Inv-loop μ-loop
-keep-requires-2 c κs = search needs
 
 add-line-2 : tie.Need-add-line-2 Inv-loop μ-loop
 add-line-2 c = omega (arith, c .before .before .before .before .before .before .before .before .loop .inv .numbered)
@@ -112,9 +91,6 @@ loop-again-2 c =
 
 enum-told : tie.Need-enum-told Inv-loop μ-loop
 enum-told c = search needs
-
-unreadable-requires : tie.Need-unreadable-requires Inv-loop μ-loop
-unreadable-requires c κs = search needs
 
 returns : tie.Need-returns Inv-loop μ-loop
 returns c =
@@ -134,25 +110,25 @@ read-sets-spec =
     (tie.spec
     Inv-loop
     μ-loop
-    no-sets-requires
-    no-sets-requires-2
+    (λ c κs. search needs)
+    (λ c κs. search needs)
     loop-holds
     line-end-requires
     sub-read-line
     part-read-line-start
     part-read-line-end
-    read-line-requires
-    enum-known-set
-    keep-requires
+    (λ c κs. search needs)
+    (λ c. search needs)
+    (λ c κs. search needs)
     add-line
     loop-less
     loop-again
-    enum-known-set-2
-    keep-requires-2
+    (λ c. search needs)
+    (λ c κs. search needs)
     add-line-2
     loop-less-2
     loop-again-2
     enum-told
-    unreadable-requires
+    (λ c κs. search needs)
     returns
     returns-2)

@@ -6,9 +6,6 @@ use borrow.Author.Needs.{needs}
 use Rattle.reader.proofs.after.Statement.{statement}
 use Rattle.reader.proofs.after.Tie as tie
 
-add-result : tie.Need-add-result
-add-result c = search needs
-
 returns : tie.Need-returns
 unfolding blocks
 returns c = sym (after-block _ _ (c .if1 .taken))
@@ -18,4 +15,4 @@ unfolding blocks
 returns-2 c = sym (after-stays _ _ (c .if1 .left))
 
 pub after-spec : {M : Type 1} → statement M
-after-spec = tie.close (tie.spec add-result returns returns-2)
+after-spec = tie.close (tie.spec (λ c. search needs) returns returns-2)

@@ -3,12 +3,6 @@ use borrow.Author.Needs.{needs}
 use Rattle.reader.proofs.count_in.Statement.{statement}
 use Rattle.reader.proofs.count_in.Tie as tie
 
-enum-known-o : tie.Need-enum-known-o
-enum-known-o c = search needs
-
-enum-known-o-2 : tie.Need-enum-known-o-2
-enum-known-o-2 c = search needs
-
 returns : tie.Need-returns
 returns c = rw (c .before .o .given .1)
 
@@ -16,4 +10,4 @@ returns-2 : tie.Need-returns-2
 returns-2 c = rw (c .before .o2 .given .1)
 
 pub count-in-spec : {M : Type 1} → statement M
-count-in-spec = tie.close (tie.spec enum-known-o enum-known-o-2 returns returns-2)
+count-in-spec = tie.close (tie.spec (λ c. search needs) (λ c. search needs) returns returns-2)

@@ -18,9 +18,6 @@ abbrev μ-loop : tie.MeasureT-loop
 loop-holds : tie.Need-loop-holds Inv-loop μ-loop
 loop-holds c = ahead-start (now (c .before .args .pile))
 
-read-at-requires : tie.Need-read-at-requires Inv-loop μ-loop
-read-at-requires c κs = search needs
-
 enum-told : tie.Need-enum-told Inv-loop μ-loop
 enum-told c = search needs
 
@@ -34,16 +31,10 @@ loop-again c =
     let k = c .before .before in
     rw (k .read-at .ensures .1) (ahead-on _ _ (k .before .loop .inv) (sym (ap sight (c .enum-told .given .1)) ∙ k .read-at .ensures .0))
 
-enum-known-seen : tie.Need-enum-known-seen Inv-loop μ-loop
-enum-known-seen c = search needs
-
 returns : tie.Need-returns Inv-loop μ-loop
 returns c =
     let k = c .before .before .before in
     refused-at _ _ _ _ _ (k .before .loop .inv) (sym (ap sight (c .before .seen .given .1)) ∙ k .read-at .ensures .0)
-
-enum-told-2 : tie.Need-enum-told-2 Inv-loop μ-loop
-enum-told-2 c = search needs
 
 returns-2 : tie.Need-returns-2 Inv-loop μ-loop
 returns-2 c =
@@ -57,11 +48,11 @@ read-all-spec =
     Inv-loop
     μ-loop
     loop-holds
-    read-at-requires
+    (λ c κs. search needs)
     enum-told
     loop-less
     loop-again
-    enum-known-seen
+    (λ c. search needs)
     returns
-    enum-told-2
+    (λ c. search needs)
     returns-2)

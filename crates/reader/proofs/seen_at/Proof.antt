@@ -7,36 +7,12 @@ use borrow.Author.Needs.{needs}
 use Rattle.reader.proofs.seen_at.Statement.{statement}
 use Rattle.reader.proofs.seen_at.Tie as tie
 
-mul-at : tie.Need-mul-at
-mul-at c = search needs
-
-sub-open : tie.Need-sub-open
-sub-open c = search needs
-
-part-open-start : tie.Need-part-open-start
-part-open-start c = search needs
-
-part-open-end : tie.Need-part-open-end
-part-open-end c = search needs
-
-open-requires : tie.Need-open-requires
-open-requires c κs = search needs
-
-add-count-in : tie.Need-add-count-in
-add-count-in c = search needs
-
-count-in-requires : tie.Need-count-in-requires
-count-in-requires c κs = search needs
-
 returns : tie.Need-returns
 unfolding blocks
 returns c = c .count-in .ensures ∙ seen-block _ _ (c .before .before .before .if1 .taken) (c .before .«open» .ensures)
 
 returns-2 : tie.Need-returns-2
 returns-2 c = sym (seeing-ended _ _ (omega (arith, c .if2 .taken)))
-
-mul-if3 : tie.Need-mul-if3
-mul-if3 c = search needs
 
 returns-3 : tie.Need-returns-3
 returns-3 c = sym (seeing-ended _ _ (omega (arith, c .if3 .taken, c .before .before .if1 .left)))
@@ -49,15 +25,15 @@ pub seen-at-spec : {M : Type 1} → statement M
 seen-at-spec =
     tie.close
     (tie.spec
-    mul-at
-    sub-open
-    part-open-start
-    part-open-end
-    open-requires
-    add-count-in
-    count-in-requires
+    (λ c. search needs)
+    (λ c. search needs)
+    (λ c. search needs)
+    (λ c. search needs)
+    (λ c κs. search needs)
+    (λ c. search needs)
+    (λ c κs. search needs)
     returns
     returns-2
-    mul-if3
+    (λ c. search needs)
     returns-3
     returns-4)

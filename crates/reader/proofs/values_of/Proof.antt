@@ -20,29 +20,11 @@ at-offset b o {n} {m} e = let f : n + o ≡ o + m = omega arith in rw f
 within : (b o n m : ℕ) {k : ℕ} → k ≡ n + m → _≡_ {A = ℕ × ℕ} (b, n + o + m) (b, o + k)
 within b o n m {k} e = let f : n + o + m ≡ o + k = omega arith in rw f
 
-sub-result : tie.Need-sub-result
-sub-result c = search needs
-
-part-result-start : tie.Need-part-result-start
-part-result-start c = search needs
-
-part-result-end : tie.Need-part-result-end
-part-result-end c = search needs
-
 returns : tie.Need-returns
 returns c =
     let p = c .before .before .before .args .pile in
     let r = values-none (now p) _ (no-block (now p) _ (c .before .if1 .taken)) in
     (sym (r .0), at-offset (p .ptr .0) (p .ptr .1) (r .1))
-
-sub-result-2 : tie.Need-sub-result-2
-sub-result-2 c = search needs
-
-part-result-start-2 : tie.Need-part-result-start-2
-part-result-start-2 c = search needs
-
-part-result-end-2 : tie.Need-part-result-end-2
-part-result-end-2 c = search needs
 
 returns-2 : tie.Need-returns-2
 unfolding blocks
@@ -50,24 +32,6 @@ returns-2 c =
     let p = c .before .before .before .before .args .pile in
     let r = values-none (now p) _ (past-blocks (now p) _ (c .before .if2 .taken)) in
     (sym (r .0), at-offset (p .ptr .0) (p .ptr .1) (r .1))
-
-sub-at : tie.Need-sub-at
-sub-at c = search needs
-
-mul-at : tie.Need-mul-at
-mul-at c = search needs
-
-sub-values : tie.Need-sub-values
-sub-values c = search needs
-
-part-values-start : tie.Need-part-values-start
-part-values-start c = search needs
-
-part-values-end : tie.Need-part-values-end
-part-values-end c = search needs
-
-values-requires : tie.Need-values-requires
-values-requires c κs = search needs
 
 returns-3 : tie.Need-returns-3
 unfolding blocks restFrom
@@ -85,18 +49,18 @@ pub values-of-spec : {M : Type 1} → statement M
 values-of-spec =
     tie.close
     (tie.spec
-    sub-result
-    part-result-start
-    part-result-end
+    (λ c. search needs)
+    (λ c. search needs)
+    (λ c. search needs)
     returns
-    sub-result-2
-    part-result-start-2
-    part-result-end-2
+    (λ c. search needs)
+    (λ c. search needs)
+    (λ c. search needs)
     returns-2
-    sub-at
-    mul-at
-    sub-values
-    part-values-start
-    part-values-end
-    values-requires
+    (λ c. search needs)
+    (λ c. search needs)
+    (λ c. search needs)
+    (λ c. search needs)
+    (λ c. search needs)
+    (λ c κs. search needs)
     returns-3)

@@ -4,23 +4,14 @@ use borrow.Author.Needs.{needs}
 use Rattle.runs_block.proofs.p11.Statement.{statement}
 use Rattle.runs_block.proofs.p11.Tie as tie
 
-slice-aggregate-write-block : tie.Need-slice-aggregate-write-block
-slice-aggregate-write-block c = search needs
-
-slice-aggregate-write-block-2 : tie.Need-slice-aggregate-write-block-2
-slice-aggregate-write-block-2 c = search needs
-
 write-block-requires : tie.Need-write-block-requires
 write-block-requires c κs = (search needs, p11-buildable)
-
-returns : tie.Need-returns
-returns c = search needs
 
 pub p11-spec : {M : Type 1} → statement M
 p11-spec =
     tie.close
     (tie.spec
-    slice-aggregate-write-block
-    slice-aggregate-write-block-2
+    (λ c. search needs)
+    (λ c. search needs)
     write-block-requires
-    returns)
+    (λ c. search needs))

@@ -19,12 +19,6 @@ loop-holds c = tt
 show-requires : tie.Need-show-requires Inv-loop μ-loop
 show-requires c κs = tt
 
-add-k : tie.Need-add-k Inv-loop μ-loop
-add-k c = omega arith
-
-loop-less : tie.Need-loop-less Inv-loop μ-loop
-loop-less c = omega arith
-
 loop-again : tie.Need-loop-again Inv-loop μ-loop
 loop-again c = tt
 
@@ -40,7 +34,7 @@ main-spec =
     arg-count-requires
     loop-holds
     show-requires
-    add-k
-    loop-less
+    (λ c. omega arith)
+    (λ c. omega arith)
     loop-again
     returns)

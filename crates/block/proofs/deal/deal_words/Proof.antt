@@ -3,18 +3,6 @@ use borrow.Author.Needs.{needs}
 use Rattle.block.proofs.deal.deal_words.Statement.{statement}
 use Rattle.block.proofs.deal.deal_words.Tie as tie
 
-word-requires : tie.Need-word-requires
-word-requires c κs = search needs
-
-word-requires-2 : tie.Need-word-requires-2
-word-requires-2 c κs = search needs
-
-word-requires-3 : tie.Need-word-requires-3
-word-requires-3 c κs = search needs
-
-word-requires-4 : tie.Need-word-requires-4
-word-requires-4 c κs = search needs
-
 returns : tie.Need-returns
 returns c = λ i.
     record {
@@ -25,4 +13,4 @@ returns c = λ i.
     }
 
 pub deal-words-spec : {M : Type 1} → statement M
-deal-words-spec = tie.close (tie.spec word-requires word-requires-2 word-requires-3 word-requires-4 returns)
+deal-words-spec = tie.close (tie.spec (λ c κs. search needs) (λ c κs. search needs) (λ c κs. search needs) (λ c κs. search needs) returns)

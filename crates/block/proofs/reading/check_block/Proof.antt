@@ -1,12 +1,12 @@
 -- `block::reading::check_block` meets its contract: UNREAD and CHECK as they were said, then the first wrong word. Assumes nothing.
 use mathlib.Core.Path.{_≡_, sym, ap, _∙_}
-use mathlib.Core.List.{List, [], _∷_}
+use mathlib.Core.List.{[], _∷_}
 use Prim.Native.Nat.{ℕ}
 use borrow.Author.Needs.{needs}
 use Rattle.answer.specs.Outcome.{refused, done}
 use Rattle.answer.specs.Checks.{firstFail}
 use Rattle.answer.proofs.CheckLaws.{given, not-given, stops, goes-on}
-use Rattle.answer.proofs.FirstLaws.{found-some, found-none}
+use Rattle.lists.proofs.FirstLaws.{found-some, found-none}
 use Rattle.block.specs.Open.{header, slotLines, blockLines}
 use Rattle.block.proofs.reading.check_block.Statement.{statement}
 use Rattle.block.proofs.reading.check_block.Tie as tie
@@ -19,12 +19,6 @@ past-slots c =
     let a = s .before .before .args in
     goes-on (slotLines (a .rest .now) (a .a)) (s .check-slots .ensures) (header (a .rest .now) (a .a) ∷ []) (done 0) (c .enum-told .given .1)
 
-check-slots-requires : tie.Need-check-slots-requires
-check-slots-requires c κs = search needs
-
-enum-known-r : tie.Need-enum-known-r
-enum-known-r c = search needs
-
 returns : tie.Need-returns
 returns c =
     let s = c .before .before .before in
@@ -33,12 +27,6 @@ returns c =
 
 enum-told : tie.Need-enum-told
 enum-told c = search needs
-
-first-wrong-requires : tie.Need-first-wrong-requires
-first-wrong-requires c κs = search needs
-
-refuse-requires : tie.Need-refuse-requires
-refuse-requires c κs = search needs
 
 returns-2 : tie.Need-returns-2
 returns-2 c =
@@ -57,4 +45,4 @@ returns-3 c =
 
 pub check-block-spec : {M : Type 1} → statement M
 check-block-spec =
-    tie.close (tie.spec check-slots-requires enum-known-r returns enum-told first-wrong-requires refuse-requires returns-2 returns-3)
+    tie.close (tie.spec (λ c κs. search needs) (λ c. search needs) returns enum-told (λ c κs. search needs) (λ c κs. search needs) returns-2 returns-3)

@@ -25,22 +25,10 @@ sum-is c = c .before .before .scan .ensures .1 ∙ clean-check (block (c .before
 agrees : (c : tie.Else2) → checkOf (block (c .before .before .before)) ≡ wordAt (block (c .before .before .before)) 256
 agrees c = sym (sum-is (c .before)) ∙ c .if2 .left ∙ c .before .word .ensures
 
-scan-requires : tie.Need-scan-requires
-scan-requires c κs = search needs
-
-refuse-requires : tie.Need-refuse-requires
-refuse-requires c κs = search needs
-
 returns : tie.Need-returns
 returns c =
     let k = c .before .before in
     c .refuse .ensures ∙ sym (slots-unread (block k) (k .before .before .args .a) (done 0) (λ z. c .before .if1 .taken (k .scan .ensures .0 ∙ z)))
-
-word-requires : tie.Need-word-requires
-word-requires c κs = search needs
-
-refuse-requires-2 : tie.Need-refuse-requires-2
-refuse-requires-2 c κs = search needs
 
 returns-2 : tie.Need-returns-2
 returns-2 c =
@@ -55,4 +43,4 @@ returns-3 c =
     sym (slots-end (block s) (s .before .before .args .a) (done 0) (clean (c .before .before)) (agrees c))
 
 pub check-slots-spec : {M : Type 1} → statement M
-check-slots-spec = tie.close (tie.spec scan-requires refuse-requires returns word-requires refuse-requires-2 returns-2 returns-3)
+check-slots-spec = tie.close (tie.spec (λ c κs. search needs) (λ c κs. search needs) returns (λ c κs. search needs) (λ c κs. search needs) returns-2 returns-3)

@@ -6,10 +6,10 @@ use Prim.Native.Nat.{_-_, _≤_}
 use native.Mathlib.Omega.{arith}
 use borrow.Author.Needs.{needs}
 use borrow.Author.Tests.{eq-eqb, ne-eqb}
-use Rattle.answer.specs.Places.{firstIn}
+use Rattle.lists.specs.Places.{firstIn}
 use Rattle.block.specs.Words.{wordAt}
 use Rattle.block.specs.Layout.{filled}
-use Rattle.answer.proofs.FirstLaws.{first-hit, first-miss, first-none}
+use Rattle.lists.proofs.FirstLaws.{first-hit, first-miss, first-none}
 use Rattle.block.proofs.reading.first_filled.Statement.{statement}
 use Rattle.block.proofs.reading.first_filled.Tie as tie
 
@@ -22,21 +22,12 @@ abbrev μ-loop : tie.MeasureT-loop
 loop-holds : tie.Need-loop-holds Inv-loop μ-loop
 loop-holds c = (c .before .pre .0, refl)
 
-word-requires : tie.Need-word-requires Inv-loop μ-loop
-word-requires c κs = search needs
-
 returns : tie.Need-returns Inv-loop μ-loop
 returns c =
     let l = c .before .before .before .loop in
     let b = now (c .before .before .before .before .before .args .b) in
     sym (l .inv .1 ∙ first-hit (filled b) (l .i) (c .before .before .before .before .before .args .end) (c .before .before .loop-test .taken)
     (ap not (ne-eqb (wordAt b (l .i)) 0 (λ e. c .if1 .taken (c .before .word .ensures ∙ e)))))
-
-add-i : tie.Need-add-i Inv-loop μ-loop
-add-i c = omega arith
-
-loop-less : tie.Need-loop-less Inv-loop μ-loop
-loop-less c = omega arith
 
 loop-again : tie.Need-loop-again Inv-loop μ-loop
 loop-again c =
@@ -53,4 +44,4 @@ returns-2 c =
     sym (l .inv .1 ∙ first-none (filled (now (c .before .before .before .args .b))) (l .i) (c .before .before .before .args .end) (c .loop-test .left))
 
 pub first-filled-spec : {M : Type 1} → statement M
-first-filled-spec = tie.close (tie.spec Inv-loop μ-loop loop-holds word-requires returns add-i loop-less loop-again returns-2)
+first-filled-spec = tie.close (tie.spec Inv-loop μ-loop loop-holds (λ c κs. search needs) returns (λ c. omega arith) (λ c. omega arith) loop-again returns-2)

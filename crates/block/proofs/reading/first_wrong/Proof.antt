@@ -6,8 +6,8 @@ use mathlib.Core.Path.{_≡_, refl, sym, ap, _∙_}
 use mathlib.Core.Bool.{not}
 use Prim.Native.Nat.{ℕ, _+_, _-_, _≤_}
 use native.Mathlib.Omega.{arith}
-use Rattle.answer.specs.Places.{firstIn}
-use Rattle.answer.proofs.FirstLaws.{first-hit, first-miss}
+use Rattle.lists.specs.Places.{firstIn}
+use Rattle.lists.proofs.FirstLaws.{first-hit, first-miss}
 use Rattle.block.specs.Layout.{rightAt, filled, firstWrong}
 use Rattle.block.proofs.LayoutLaws.{wrong-rest}
 use Rattle.block.proofs.reading.first_wrong.Statement.{statement}
@@ -23,15 +23,6 @@ loop-holds : tie.Need-loop-holds Inv-loop μ-loop
 unfolding firstWrong
 loop-holds c = (search needs, search needs, refl)
 
-right-requires : tie.Need-right-requires Inv-loop μ-loop
-right-requires c κs = search needs
-
-add-i : tie.Need-add-i Inv-loop μ-loop
-add-i c = search needs
-
-loop-less : tie.Need-loop-less Inv-loop μ-loop
-loop-less c = search needs
-
 loop-again : tie.Need-loop-again Inv-loop μ-loop
 loop-again c =
     let l = c .before .before .before .loop in
@@ -46,18 +37,6 @@ returns c =
     let l = c .before .before .before .loop in
     let b = now (c .before .before .before .before .before .args .b) in
     sym (l .inv .2 ∙ first-hit (λ k. not (rightAt b k)) (l .i) 256 (search needs) (ap not (sym (c .before .right .ensures) ∙ c .if1 .left)))
-
-word-requires : tie.Need-word-requires Inv-loop μ-loop
-word-requires c κs = search needs
-
-cast-first-filled : tie.Need-cast-first-filled Inv-loop μ-loop
-cast-first-filled c = search needs
-
-add-first-filled : tie.Need-add-first-filled Inv-loop μ-loop
-add-first-filled c = search needs
-
-first-filled-requires : tie.Need-first-filled-requires Inv-loop μ-loop
-first-filled-requires c κs = search needs
 
 returns-2 : tie.Need-returns-2 Inv-loop μ-loop
 returns-2 c =
@@ -75,13 +54,13 @@ first-wrong-spec =
     Inv-loop
     μ-loop
     loop-holds
-    right-requires
-    add-i
-    loop-less
+    (λ c κs. search needs)
+    (λ c. search needs)
+    (λ c. search needs)
     loop-again
     returns
-    word-requires
-    cast-first-filled
-    add-first-filled
-    first-filled-requires
+    (λ c κs. search needs)
+    (λ c. search needs)
+    (λ c. search needs)
+    (λ c κs. search needs)
     returns-2)

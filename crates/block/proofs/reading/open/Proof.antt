@@ -8,17 +8,8 @@ use Rattle.block.proofs.reading.open.Tie as tie
 returns : tie.Need-returns
 returns c = sym (opening-torn _ (c .if1 .taken))
 
-check-block-requires : tie.Need-check-block-requires
-check-block-requires c κs = search needs
-
-enum-known-r : tie.Need-enum-known-r
-enum-known-r c = search needs
-
 enum-told : tie.Need-enum-told
 enum-told c = search needs
-
-header-requires : tie.Need-header-requires
-header-requires c κs = search needs
 
 returns-2 : tie.Need-returns-2
 returns-2 c =
@@ -35,9 +26,9 @@ open-spec =
     tie.close
     (tie.spec
     returns
-    check-block-requires
-    enum-known-r
+    (λ c κs. search needs)
+    (λ c. search needs)
     enum-told
-    header-requires
+    (λ c κs. search needs)
     returns-2
     returns-3)

@@ -26,30 +26,6 @@ word-four k = k .before .word .ensures ∙ ap (wordAt (now (k .before .before .b
 seven : (k : tie.At-match-rest) → k .before .before .before .args .i ≡ 7
 seven k = omega arith
 
-word-requires : tie.Need-word-requires
-word-requires c κs = search needs
-
-within-requires : tie.Need-within-requires
-within-requires c κs = search needs
-
-word-requires-2 : tie.Need-word-requires-2
-word-requires-2 c κs = search needs
-
-within-requires-2 : tie.Need-within-requires-2
-within-requires-2 c κs = search needs
-
-within-requires-3 : tie.Need-within-requires-3
-within-requires-3 c κs = search needs
-
-within-requires-4 : tie.Need-within-requires-4
-within-requires-4 c κs = search needs
-
-word-requires-3 : tie.Need-word-requires-3
-word-requires-3 c κs = search needs
-
-within-requires-5 : tie.Need-within-requires-5
-within-requires-5 c κs = search needs
-
 returns : tie.Need-returns
 returns c = simp (c .before .word .ensures, c .match .keys1, right-mark (block (c .before .before .before)))
 
@@ -96,14 +72,14 @@ pub right-spec : {M : Type 1} → statement M
 right-spec =
     tie.close
     (tie.spec
-    word-requires
-    within-requires
-    word-requires-2
-    within-requires-2
-    within-requires-3
-    within-requires-4
-    word-requires-3
-    within-requires-5
+    (λ c κs. search needs)
+    (λ c κs. search needs)
+    (λ c κs. search needs)
+    (λ c κs. search needs)
+    (λ c κs. search needs)
+    (λ c κs. search needs)
+    (λ c κs. search needs)
+    (λ c κs. search needs)
     returns
     returns-2
     returns-3

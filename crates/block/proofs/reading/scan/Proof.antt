@@ -19,20 +19,8 @@ abbrev μ-loop : tie.MeasureT-loop
 loop-holds : tie.Need-loop-holds Inv-loop μ-loop
 loop-holds c = scan-start _
 
-word-requires : tie.Need-word-requires Inv-loop μ-loop
-word-requires c κs = search needs
-
 returns : tie.Need-returns Inv-loop μ-loop
 returns c = scan-found (c .before .before .before .loop .inv) (c .before .word .result) (c .before .word .ensures) (c .if1 .taken)
-
-weigh-requires : tie.Need-weigh-requires Inv-loop μ-loop
-weigh-requires c κs = search needs
-
-add-i : tie.Need-add-i Inv-loop μ-loop
-add-i c = search needs
-
-loop-less : tie.Need-loop-less Inv-loop μ-loop
-loop-less c = search needs
 
 loop-again : tie.Need-loop-again Inv-loop μ-loop
 loop-again c =
@@ -46,17 +34,11 @@ last c = omega arith
 read : (c : tie.After-word2 Inv-loop μ-loop) → c .word2 .result ≡ wordAt (now (c .before .before .before .before .args .b)) (c .before .before .loop .i)
 read c = c .word2 .ensures ∙ ap (wordAt (now (c .before .before .before .before .args .b))) (sym (last c))
 
-word-requires-2 : tie.Need-word-requires-2 Inv-loop μ-loop
-word-requires-2 c κs = search needs
-
 returns-2 : tie.Need-returns-2 Inv-loop μ-loop
 returns-2 c =
     let k = c .before in
     let r = scan-found (k .before .before .loop .inv) (k .word2 .result) (read k) (c .if2 .taken) in
     (sym (last k) ∙ r .0, r .1)
-
-cast-t9 : tie.Need-cast-t9 Inv-loop μ-loop
-cast-t9 c = search needs
 
 returns-3 : tie.Need-returns-3 Inv-loop μ-loop
 returns-3 c = let k = c .before in scan-end (k .before .before .loop .inv) (k .word2 .result) (read k) (last k) (c .if2 .left)
@@ -68,13 +50,13 @@ scan-spec =
     Inv-loop
     μ-loop
     loop-holds
-    word-requires
+    (λ c κs. search needs)
     returns
-    weigh-requires
-    add-i
-    loop-less
+    (λ c κs. search needs)
+    (λ c. search needs)
+    (λ c. search needs)
     loop-again
-    word-requires-2
+    (λ c κs. search needs)
     returns-2
-    cast-t9
+    (λ c. search needs)
     returns-3)

@@ -19,12 +19,6 @@ eight c =
 sub-at : tie.Need-sub-at
 sub-at c = eight c
 
-mul-result : tie.Need-mul-result
-mul-result c = search needs
-
-shared-slice-read-result : tie.Need-shared-slice-read-result
-shared-slice-read-result c = search needs
-
 returns : tie.Need-returns
 unfolding heldAt
 returns c = rw (c .match .keys1)
@@ -69,8 +63,8 @@ body-word-spec =
     tie.close
     (tie.spec
     sub-at
-    mul-result
-    shared-slice-read-result
+    (λ c. search needs)
+    (λ c. search needs)
     returns
     returns-2
     returns-3

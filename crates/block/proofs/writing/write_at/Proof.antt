@@ -6,21 +6,6 @@ use borrow.Author.Needs.{needs}
 use Rattle.block.proofs.writing.write_at.Statement.{statement}
 use Rattle.block.proofs.writing.write_at.Tie as tie
 
-sub-write-block : tie.Need-sub-write-block
-sub-write-block c = search needs
-
-part-write-block-start : tie.Need-part-write-block-start
-part-write-block-start c = search needs
-
-part-write-block-end : tie.Need-part-write-block-end
-part-write-block-end c = search needs
-
-write-block-requires : tie.Need-write-block-requires
-write-block-requires c κs = search needs
-
-same-length : tie.Need-same-length
-same-length c = search needs
-
 returns : tie.Need-returns
 returns c =
     let a = c .before .before .before .before .before .before .args in
@@ -30,9 +15,9 @@ pub write-at-spec : {M : Type 1} → statement M
 write-at-spec =
     tie.close
     (tie.spec
-    sub-write-block
-    part-write-block-start
-    part-write-block-end
-    write-block-requires
-    same-length
+    (λ c. search needs)
+    (λ c. search needs)
+    (λ c. search needs)
+    (λ c κs. search needs)
+    (λ c. search needs)
     returns)

@@ -1,9 +1,7 @@
 -- `block::writing::write_block` meets its contract: words 1 to i - 1 stand before the rest of what was lent, and are in the sum.
 -- Assumes nothing.
-use denote.Ref.{now}
 use mathlib.Core.Path.{_∙_}
-use Prim.Native.Nat.{_-_, _≤_}
-use lib.ListN.{length}
+use Prim.Native.Nat.{_-_}
 use native.Mathlib.Omega.{arith}
 use borrow.Author.Needs.{needs}
 use Rattle.block.proofs.WritingLaws.{Writing, write-start, write-on, write-end}
@@ -19,24 +17,12 @@ abbrev μ-loop : tie.MeasureT-loop
 loop-holds : tie.Need-loop-holds Inv-loop μ-loop
 loop-holds c = write-start _ _ _
 
-body-word-requires : tie.Need-body-word-requires Inv-loop μ-loop
-body-word-requires c κs = search needs
-
-put-word-requires : tie.Need-put-word-requires Inv-loop μ-loop
-put-word-requires c κs = search needs
-
 weigh-requires : tie.Need-weigh-requires Inv-loop μ-loop
 weigh-requires c κs =
     let k = c .before .before .before .before in
     let st = k .before .before .before .before .before in
     let small = st .pre .1 .small (k .before .before .loop .i) (omega arith) (omega arith) in
     (omega arith, search needs)
-
-add-i : tie.Need-add-i Inv-loop μ-loop
-add-i c = search needs
-
-loop-less : tie.Need-loop-less Inv-loop μ-loop
-loop-less c = search needs
 
 loop-again : tie.Need-loop-again Inv-loop μ-loop
 loop-again c =
@@ -45,12 +31,6 @@ loop-again c =
     let w = c .before .before .before .put-word in
     write-on _ _ _ _ _ _ (st .pre .0) (k .before .before .loop .inv) (omega arith) _ (k .body-word .ensures) _ (w .kept .0) (w .ensures) _
     (c .weigh .ensures .0) (c .weigh .ensures .1)
-
-cast-put-word : tie.Need-cast-put-word Inv-loop μ-loop
-cast-put-word c = search needs
-
-put-word-requires-2 : tie.Need-put-word-requires-2 Inv-loop μ-loop
-put-word-requires-2 c κs = search needs
 
 same-length : tie.Need-same-length Inv-loop μ-loop
 same-length c = c .before .before .put-word2 .kept .0 ∙ c .before .before .before .before .before .loop .inv .same
@@ -68,13 +48,13 @@ write-block-spec =
     Inv-loop
     μ-loop
     loop-holds
-    body-word-requires
-    put-word-requires
+    (λ c κs. search needs)
+    (λ c κs. search needs)
     weigh-requires
-    add-i
-    loop-less
+    (λ c. search needs)
+    (λ c. search needs)
     loop-again
-    cast-put-word
-    put-word-requires-2
+    (λ c. search needs)
+    (λ c κs. search needs)
     same-length
     returns)

@@ -16,29 +16,8 @@ Inv-loop rows k holder column count₀ i₀ count i = (i ≤ k) × (count ≤ i)
 abbrev μ-loop : tie.MeasureT-loop
 μ-loop rows k holder column count₀ i₀ count i = k - i
 
-sub-column : tie.Need-sub-column Inv-loop μ-loop
-sub-column c = omega arith
-
 loop-holds : tie.Need-loop-holds Inv-loop μ-loop
 loop-holds c = (omega arith, omega arith, held-start _ _)
-
-mul-if1 : tie.Need-mul-if1 Inv-loop μ-loop
-mul-if1 c = omega arith
-
-index-1-if1 : tie.Need-index-1-if1 Inv-loop μ-loop
-index-1-if1 c = omega arith
-
-index-2-if1 : tie.Need-index-2-if1 Inv-loop μ-loop
-index-2-if1 c = omega arith
-
-add-count : tie.Need-add-count Inv-loop μ-loop
-add-count c = omega arith
-
-add-i : tie.Need-add-i Inv-loop μ-loop
-add-i c = omega arith
-
-loop-less : tie.Need-loop-less Inv-loop μ-loop
-loop-less c = omega arith
 
 loop-again : tie.Need-loop-again Inv-loop μ-loop
 loop-again c =
@@ -60,13 +39,13 @@ held-count-spec =
     (tie.spec
     Inv-loop
     μ-loop
-    sub-column
+    (λ c. omega arith)
     loop-holds
-    mul-if1
-    index-1-if1
-    index-2-if1
-    add-count
-    add-i
-    loop-less
+    (λ c. omega arith)
+    (λ c. omega arith)
+    (λ c. omega arith)
+    (λ c. omega arith)
+    (λ c. omega arith)
+    (λ c. omega arith)
     loop-again
     returns)

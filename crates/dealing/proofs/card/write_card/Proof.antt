@@ -44,9 +44,6 @@ mul-if1 c =
     let s = c .before .before .before .before in
     omega (arith, c .held-count .ensures, held-few (s .args .rows .now) (s .args .asked .holder) (s .args .k), s .pre .most)
 
-refuse-requires : tie.Need-refuse-requires Inv-loop μ-loop
-refuse-requires c κs = search needs
-
 returns : tie.Need-returns Inv-loop μ-loop
 returns c =
     let h = c .before .before .held-count in
@@ -61,9 +58,6 @@ sub-column c = omega (arith, c .before .before .before .before .before .before .
 loop-holds : tie.Need-loop-holds Inv-loop μ-loop
 loop-holds c = laid-start _ _ _ _ _
 
-mul-if2 : tie.Need-mul-if2 Inv-loop μ-loop
-mul-if2 c = omega arith
-
 index-1-if2 : tie.Need-index-1-if2 Inv-loop μ-loop
 index-1-if2 c = omega (arith, start (c .before) .pre .most)
 
@@ -72,21 +66,12 @@ index-2-if2 c =
     let r = start (c .before) .pre in
     omega (arith, r .holder-in .1, r .few)
 
-add-write-piece : tie.Need-add-write-piece Inv-loop μ-loop
-add-write-piece c = omega arith
-
 write-piece-requires : tie.Need-write-piece-requires Inv-loop μ-loop
 write-piece-requires c κs =
     (room (c .before), (start (c .before .before .before .before) .pre, (omega arith, omega (arith, c .before .before .before .loop-test .taken))))
 
 add-at : tie.Need-add-at Inv-loop μ-loop
 add-at c = omega (arith, room (c .before .before .before .before))
-
-add-row : tie.Need-add-row Inv-loop μ-loop
-add-row c = omega arith
-
-loop-less : tie.Need-loop-less Inv-loop μ-loop
-loop-less c = omega arith
 
 loop-again : tie.Need-loop-again Inv-loop μ-loop
 loop-again c =
@@ -119,18 +104,18 @@ write-card-spec =
     μ-loop
     held-count-requires
     mul-if1
-    refuse-requires
+    (λ c κs. search needs)
     returns
     sub-column
     loop-holds
-    mul-if2
+    (λ c. omega arith)
     index-1-if2
     index-2-if2
-    add-write-piece
+    (λ c. omega arith)
     write-piece-requires
     add-at
-    add-row
-    loop-less
+    (λ c. omega arith)
+    (λ c. omega arith)
     loop-again
     same-length
     returns-2)

@@ -7,40 +7,10 @@ use native.Mathlib.Omega.{arith}
 use lib.ListN.{take, drop}
 use lib.Seq.{length-take-le}
 use borrow.Author.Needs.{needs}
-use Rattle.answer.specs.Lent.{over}
+use Rattle.lists.specs.Over.{over}
 use Rattle.dealing.proofs.CardLaws.{ready-builds, block-is}
 use Rattle.dealing.proofs.card.write_piece.Statement.{statement}
 use Rattle.dealing.proofs.card.write_piece.Tie as tie
-
-sub-values-of : tie.Need-sub-values-of
-sub-values-of c = search needs
-
-cast-values-of : tie.Need-cast-values-of
-cast-values-of c = search needs
-
-values-of-requires : tie.Need-values-of-requires
-values-of-requires c κs = search needs
-
-cast-t14 : tie.Need-cast-t14
-cast-t14 c = search needs
-
-cast-t15 : tie.Need-cast-t15
-cast-t15 c = search needs
-
-cast-t16 : tie.Need-cast-t16
-cast-t16 c = search needs
-
-cast-t17 : tie.Need-cast-t17
-cast-t17 c = search needs
-
-cast-t14-2 : tie.Need-cast-t14-2
-cast-t14-2 c = search needs
-
-cast-t17-2 : tie.Need-cast-t17-2
-cast-t17-2 c = search needs
-
-array-share-prefix-made : tie.Need-array-share-prefix-made
-array-share-prefix-made c = search needs
 
 -- the place at which the values are made
 abbrev values : tie.After-made → tie.After-values-of
@@ -57,9 +27,6 @@ write-at-requires c κs =
     let s = start c in
     (s .pre .0, ready-builds (s .pre .1 .0) (s .args .j) _ (s .pre .1 .1 .0) (s .pre .1 .1 .1) (values c .values-of .ensures))
 
-same-length : tie.Need-same-length
-same-length c = search needs
-
 returns : tie.Need-returns
 returns c =
     let m = c .before .before .before in
@@ -72,17 +39,17 @@ pub write-piece-spec : {M : Type 1} → statement M
 write-piece-spec =
     tie.close
     (tie.spec
-    sub-values-of
-    cast-values-of
-    values-of-requires
-    cast-t14
-    cast-t15
-    cast-t16
-    cast-t17
-    cast-t14-2
-    cast-t17-2
-    array-share-prefix-made
+    (λ c. search needs)
+    (λ c. search needs)
+    (λ c κs. search needs)
+    (λ c. search needs)
+    (λ c. search needs)
+    (λ c. search needs)
+    (λ c. search needs)
+    (λ c. search needs)
+    (λ c. search needs)
+    (λ c. search needs)
     slice-aggregate-write-at
     write-at-requires
-    same-length
+    (λ c. search needs)
     returns)

@@ -10,7 +10,7 @@ use borrow.Author.Needs.{needs}
 use borrow.Author.Tests.{eq-eqb, ne-eqb}
 use Rattle.answer.specs.Checks.{Line}
 use Rattle.answer.proofs.SaysLaws.{said, Says, whole, passes, speaks, silent}
-use Rattle.planning.proofs.SomeLaws.{found-at, found-none}
+use Rattle.lists.proofs.SomeLaws.{found-at, found-none}
 use Rattle.dealing.specs.declared.Asked.{Asked}
 use Rattle.dealing.specs.Dealt.{badNumber, badHolder, badWidth, badSecret, badCount, badRandom, inputLines}
 use Rattle.dealing.proofs.InputLaws.{in-range}
@@ -82,41 +82,17 @@ few c =
     let s = w .before .before .before .before .before .before .before .before in
     mul-le-mul (in-range 16 (length (s .args .secret .now)) (sym (w .before .outside3 .ensures) ∙ w .if3 .left) .1) (s .pre)
 
-outside-requires : tie.Need-outside-requires
-outside-requires c κs = search needs
-
-refuse-requires : tie.Need-refuse-requires
-refuse-requires c κs = search needs
-
 returns : tie.Need-returns
 unfolding badNumber
 returns c = c .refuse .ensures ∙ speaks (on0 _ _ _ _) (sym (c .before .before .outside .ensures) ∙ c .before .if1 .taken)
-
-outside-requires-2 : tie.Need-outside-requires-2
-outside-requires-2 c κs = search needs
-
-refuse-requires-2 : tie.Need-refuse-requires-2
-refuse-requires-2 c κs = search needs
 
 returns-2 : tie.Need-returns-2
 unfolding badHolder
 returns-2 c = c .refuse2 .ensures ∙ speaks (on1 (c .before .before .before)) (sym (c .before .before .outside2 .ensures) ∙ c .before .if2 .taken)
 
-outside-requires-3 : tie.Need-outside-requires-3
-outside-requires-3 c κs = search needs
-
-refuse-requires-3 : tie.Need-refuse-requires-3
-refuse-requires-3 c κs = search needs
-
 returns-3 : tie.Need-returns-3
 unfolding badWidth
 returns-3 c = c .refuse3 .ensures ∙ speaks (on2 (c .before .before .before)) (sym (c .before .before .outside3 .ensures) ∙ c .before .if3 .taken)
-
-first-large-requires : tie.Need-first-large-requires
-first-large-requires c κs = search needs
-
-refuse-requires-4 : tie.Need-refuse-requires-4
-refuse-requires-4 c κs = search needs
 
 returns-4 : tie.Need-returns-4
 unfolding badSecret
@@ -127,18 +103,9 @@ returns-4 c =
 mul-if5 : tie.Need-mul-if5
 mul-if5 c = omega (arith, few c)
 
-refuse-requires-5 : tie.Need-refuse-requires-5
-refuse-requires-5 c κs = search needs
-
 returns-5 : tie.Need-returns-5
 unfolding badCount
 returns-5 c = c .refuse5 .ensures ∙ speaks (on4 (c .before .before)) (rw (ne-eqb _ _ (c .before .if5 .taken)))
-
-first-large-requires-2 : tie.Need-first-large-requires-2
-first-large-requires-2 c κs = search needs
-
-refuse-requires-6 : tie.Need-refuse-requires-6
-refuse-requires-6 c κs = search needs
 
 returns-6 : tie.Need-returns-6
 unfolding badRandom
@@ -153,22 +120,22 @@ pub check-inputs-spec : {M : Type 1} → statement M
 check-inputs-spec =
     tie.close
     (tie.spec
-    outside-requires
-    refuse-requires
+    (λ c κs. search needs)
+    (λ c κs. search needs)
     returns
-    outside-requires-2
-    refuse-requires-2
+    (λ c κs. search needs)
+    (λ c κs. search needs)
     returns-2
-    outside-requires-3
-    refuse-requires-3
+    (λ c κs. search needs)
+    (λ c κs. search needs)
     returns-3
-    first-large-requires
-    refuse-requires-4
+    (λ c κs. search needs)
+    (λ c κs. search needs)
     returns-4
     mul-if5
-    refuse-requires-5
+    (λ c κs. search needs)
     returns-5
-    first-large-requires-2
-    refuse-requires-6
+    (λ c κs. search needs)
+    (λ c κs. search needs)
     returns-6
     returns-7)

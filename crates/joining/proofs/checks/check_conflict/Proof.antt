@@ -6,8 +6,8 @@ use mathlib.Core.Path.{_≡_, sym, ap, _∙_}
 use Prim.Native.Nat.{_+_, _-_, _≤_}
 use lib.ListN.{getD}
 use Rattle.answer.specs.Outcome.{refused}
-use Rattle.answer.specs.Places.{firstIn}
-use Rattle.answer.proofs.FirstLaws.{first-hit, first-miss, first-none, found-some, found-none}
+use Rattle.lists.specs.Places.{firstIn}
+use Rattle.lists.proofs.FirstLaws.{first-hit, first-miss, first-none, found-some, found-none}
 use Rattle.pile.specs.Blocks.{blocks, In}
 use Rattle.joining.specs.Checks.{conflictAt}
 use Rattle.joining.specs.Pile.{pieceAt, placeOf, differIn}
@@ -43,17 +43,11 @@ place c =
     let d = c .before .before .before .before in
     place-at (d .args .pile .now) (d .args .table .now) (c .word .result) _ (c .word .ensures) (piece c .0) (piece c .1) (d .pre .1 .1)
 
-add-end : tie.Need-add-end Inv-loop μ-loop
-add-end c = omega arith
-
 loop-holds : tie.Need-loop-holds Inv-loop μ-loop
 loop-holds c = (omega arith, by-first (c .before .args .pile .now))
 
 word-requires : tie.Need-word-requires Inv-loop μ-loop
 word-requires c κs = (inside c .0, inside c .1, omega arith, omega arith)
-
-cast-at : tie.Need-cast-at Inv-loop μ-loop
-cast-at c = search needs
 
 sub-at : tie.Need-sub-at Inv-loop μ-loop
 sub-at c = omega (arith, piece c .0)
@@ -73,9 +67,6 @@ differ-in-requires c κs =
     let e = place w in
     (d .pre .0, (d .pre .1 .0, (inside (w .before), (omega (arith, p .0 .from, e), omega (arith, p .0 .to, e)))))
 
-refuse-requires : tie.Need-refuse-requires Inv-loop μ-loop
-refuse-requires c κs = search needs
-
 returns : tie.Need-returns Inv-loop μ-loop
 returns c =
     let t = c .before in
@@ -86,12 +77,6 @@ returns c =
     let d = found-some {a = differIn p (l .loop .a) (firstLike p (l .loop .a))} (λ z. t .if1 .taken (t .before .differ-in .ensures ∙ ap (differIn p (l .loop .a)) e ∙ z)) in
     c .refuse .ensures ∙ ap (refused 19 (l .loop .a)) e
     ∙ conflict-given p (l .loop .a) (l .loop .inv .0) (l .loop .inv .1 ∙ first-hit (apart p) (l .loop .a) (blocks p + 1) (omega (arith, inside (w .before) .1)) d)
-
-add-a : tie.Need-add-a Inv-loop μ-loop
-add-a c = omega arith
-
-loop-less : tie.Need-loop-less Inv-loop μ-loop
-loop-less c = omega arith
 
 loop-again : tie.Need-loop-again Inv-loop μ-loop
 loop-again c =
@@ -114,17 +99,17 @@ check-conflict-spec =
     (tie.spec
     Inv-loop
     μ-loop
-    add-end
+    (λ c. omega arith)
     loop-holds
     word-requires
-    cast-at
+    (λ c. search needs)
     sub-at
     mul-b
     element-copy-out-b
     differ-in-requires
-    refuse-requires
+    (λ c κs. search needs)
     returns
-    add-a
-    loop-less
+    (λ c. omega arith)
+    (λ c. omega arith)
     loop-again
     returns-2)

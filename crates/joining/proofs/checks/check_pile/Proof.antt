@@ -8,7 +8,7 @@ use borrow.Author.Tests.{lt-ltb, le-ltb}
 use Rattle.answer.specs.Outcome.{outcome, done}
 use Rattle.answer.proofs.CheckLaws.{done-passed}
 use Rattle.answer.proofs.SaysLaws.{said, Says, whole, passes, speaks, part-speaks, part-passes}
-use Rattle.answer.proofs.FirstLaws.{found-some, found-none}
+use Rattle.lists.proofs.FirstLaws.{found-some, found-none}
 use Rattle.pile.specs.Blocks.{blocks}
 use Rattle.pile.specs.Lines.{longPile, everyBlock}
 use Rattle.pile.proofs.LineLaws.{blocks-true}
@@ -35,25 +35,13 @@ left3 c =
     let f = c .before .before in
     part-passes (everyBlock (f .before .before .before .before .args .pile .now)) _ (left2 (f .before)) (f .check-blocks .ensures) (c .enum-told .given .1)
 
-refuse-requires : tie.Need-refuse-requires
-refuse-requires c κs = search needs
-
 returns : tie.Need-returns
 unfolding pileLines
 returns c = c .refuse .ensures ∙ speaks (whole _) (found-some (c .before .if1 .taken))
 
-refuse-requires-2 : tie.Need-refuse-requires-2
-refuse-requires-2 c κs = search needs
-
 returns-2 : tie.Need-returns-2
 unfolding blocks
 returns-2 c = c .refuse2 .ensures ∙ speaks (left1 (c .before .before)) (lt-ltb 560 _ (c .before .if2 .taken))
-
-check-blocks-requires : tie.Need-check-blocks-requires
-check-blocks-requires c κs = search needs
-
-enum-known-r : tie.Need-enum-known-r
-enum-known-r c = search needs
 
 returns-3 : tie.Need-returns-3
 returns-3 c =
@@ -62,9 +50,6 @@ returns-3 c =
 
 enum-told : tie.Need-enum-told
 enum-told c = search needs
-
-refuse-requires-3 : tie.Need-refuse-requires-3
-refuse-requires-3 c κs = search needs
 
 returns-4 : tie.Need-returns-4
 returns-4 c =
@@ -86,15 +71,15 @@ pub check-pile-spec : {M : Type 1} → statement M
 check-pile-spec =
     tie.close
     (tie.spec
-    refuse-requires
+    (λ c κs. search needs)
     returns
-    refuse-requires-2
+    (λ c κs. search needs)
     returns-2
-    check-blocks-requires
-    enum-known-r
+    (λ c κs. search needs)
+    (λ c. search needs)
     returns-3
     enum-told
-    refuse-requires-3
+    (λ c κs. search needs)
     returns-4
     check-whole-requires
     returns-5)

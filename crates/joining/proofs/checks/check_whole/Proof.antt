@@ -8,7 +8,7 @@ use lib.ListN.{length}
 use borrow.Author.Needs.{needs}
 use Rattle.answer.specs.Outcome.{refused}
 use Rattle.answer.proofs.SaysLaws.{said, Says, whole, passes, speaks, silent, part-speaks, part-passes}
-use Rattle.answer.proofs.FirstLaws.{found-some, found-none}
+use Rattle.lists.proofs.FirstLaws.{found-some, found-none}
 use Rattle.block.specs.declared.deal.DealWords.{DealWords}
 use Rattle.joining.specs.Pile.{pieceCount, width, present}
 use Rattle.joining.specs.Checks.{conflict, short, wholeLines}
@@ -37,15 +37,6 @@ left2 c =
     let e = f .before .before .before .before in
     part-passes (conflict (e .before .before .before .before .args .pile .now) ∷ []) _ (left1 e) (f .check-conflict .ensures) (c .enum-told .given .1)
 
-own-deal-requires : tie.Need-own-deal-requires
-own-deal-requires c κs = search needs
-
-mixed-at-requires : tie.Need-mixed-at-requires
-mixed-at-requires c κs = search needs
-
-refuse-requires : tie.Need-refuse-requires
-refuse-requires c κs = search needs
-
 returns : tie.Need-returns
 returns c =
     let t = c .before in
@@ -55,17 +46,11 @@ returns c =
 places-requires : tie.Need-places-requires
 places-requires c κs = past-mixed c
 
-cast-w : tie.Need-cast-w
-cast-w c = search needs
-
 check-conflict-requires : tie.Need-check-conflict-requires
 check-conflict-requires c κs =
     let p = c .before .before in
     let e = p .before in
     (past-mixed e, (ap (λ (d : DealWords). d .width) (e .before .before .own-deal .ensures), p .places .ensures))
-
-enum-known-r : tie.Need-enum-known-r
-enum-known-r c = search needs
 
 returns-2 : tie.Need-returns-2
 returns-2 c =
@@ -75,9 +60,6 @@ returns-2 c =
 
 enum-told : tie.Need-enum-told
 enum-told c = search needs
-
-cast-k : tie.Need-cast-k
-cast-k c = search needs
 
 -- k, and the pieces present
 k-is : (c : tie.After-enum-told)
@@ -98,9 +80,6 @@ here-is c =
     let p = t .before .before .before .before .before in
     c .count-present .ensures ∙ ap length (present-is _ _ _ (k-is t .0) (k-is t .1) (p .places .ensures))
 
-refuse-requires-2 : tie.Need-refuse-requires-2
-refuse-requires-2 c κs = search needs
-
 returns-3 : tie.Need-returns-3
 returns-3 c =
     let i = c .before in
@@ -119,18 +98,18 @@ pub check-whole-spec : {M : Type 1} → statement M
 check-whole-spec =
     tie.close
     (tie.spec
-    own-deal-requires
-    mixed-at-requires
-    refuse-requires
+    (λ c κs. search needs)
+    (λ c κs. search needs)
+    (λ c κs. search needs)
     returns
     places-requires
-    cast-w
+    (λ c. search needs)
     check-conflict-requires
-    enum-known-r
+    (λ c. search needs)
     returns-2
     enum-told
-    cast-k
+    (λ c. search needs)
     count-present-requires
-    refuse-requires-2
+    (λ c κs. search needs)
     returns-3
     returns-4)

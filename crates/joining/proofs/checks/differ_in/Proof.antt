@@ -6,8 +6,8 @@ use mathlib.Core.List.{List}
 use Prim.Native.Nat.{ℕ, _+_, _-_, _≤_}
 use native.Mathlib.Omega.{arith}
 use lib.Dec.{eqb}
-use Rattle.answer.specs.Places.{firstIn}
-use Rattle.answer.proofs.FirstLaws.{first-hit, first-miss, first-none}
+use Rattle.lists.specs.Places.{firstIn}
+use Rattle.lists.proofs.FirstLaws.{first-hit, first-miss, first-none}
 use Rattle.joining.specs.Pile.{valueOf, differIn}
 use Rattle.joining.proofs.PileLaws.{equal, other, width-in}
 use Rattle.joining.proofs.checks.differ_in.Statement.{statement}
@@ -35,30 +35,12 @@ loop-holds c =
       ap (λ (n : ℕ). firstIn (differ (a .pile .now) (a .a) (a .b)) 1 (n + 1)) (sym (s .pre .1 .0)),
     )
 
-add-word : tie.Need-add-word Inv-loop μ-loop
-add-word c = omega arith
-
-word-requires : tie.Need-word-requires Inv-loop μ-loop
-word-requires c κs = omega arith
-
-add-word-2 : tie.Need-add-word-2 Inv-loop μ-loop
-add-word-2 c = omega arith
-
-word-requires-2 : tie.Need-word-requires-2 Inv-loop μ-loop
-word-requires-2 c κs = omega arith
-
 returns : tie.Need-returns Inv-loop μ-loop
 returns c =
     let l = c .before .before .before .before in
     let a = l .before .before .args in
     sym (l .loop .inv .2 ∙ first-hit (differ (a .pile .now) (a .a) (a .b)) (l .loop .i) _ (c .before .before .before .loop-test .taken)
     (ap not (other (c .before .before .word .ensures) (c .before .word2 .ensures) (c .if1 .taken))))
-
-add-i : tie.Need-add-i Inv-loop μ-loop
-add-i c = omega arith
-
-loop-less : tie.Need-loop-less Inv-loop μ-loop
-loop-less c = omega arith
 
 loop-again : tie.Need-loop-again Inv-loop μ-loop
 loop-again c =
@@ -84,12 +66,12 @@ differ-in-spec =
     μ-loop
     add-end
     loop-holds
-    add-word
-    word-requires
-    add-word-2
-    word-requires-2
+    (λ c. omega arith)
+    (λ c κs. omega arith)
+    (λ c. omega arith)
+    (λ c κs. omega arith)
     returns
-    add-i
-    loop-less
+    (λ c. omega arith)
+    (λ c. omega arith)
     loop-again
     returns-2)

@@ -5,8 +5,8 @@ use mathlib.Core.Bool.{not}
 use Prim.Native.Nat.{_+_, _-_, _≤_}
 use native.Mathlib.Omega.{arith}
 use borrow.Author.Needs.{needs}
-use Rattle.answer.specs.Places.{firstIn}
-use Rattle.answer.proofs.FirstLaws.{first-hit, first-miss, first-none}
+use Rattle.lists.specs.Places.{firstIn}
+use Rattle.lists.proofs.FirstLaws.{first-hit, first-miss, first-none}
 use Rattle.block.specs.Deals.{sameDeal}
 use Rattle.pile.specs.Blocks.{blocks, dealAt}
 use Rattle.joining.specs.Pile.{ownDeal}
@@ -27,9 +27,6 @@ says : (c : tie.After-same-deal Inv-loop μ-loop)
     (ownDeal (c .before .before .before .before .before .args .pile .now))
 says c = c .same-deal .ensures ∙ ap₂ sameDeal (c .before .deal-at .ensures) (c .before .before .before .before .before .pre)
 
-add-end : tie.Need-add-end Inv-loop μ-loop
-add-end c = omega arith
-
 loop-holds : tie.Need-loop-holds Inv-loop μ-loop
 unfolding mixedAt
 loop-holds c = (omega arith, refl)
@@ -37,15 +34,6 @@ loop-holds c = (omega arith, refl)
 deal-at-requires : tie.Need-deal-at-requires Inv-loop μ-loop
 unfolding blocks
 deal-at-requires c κs = omega arith
-
-same-deal-requires : tie.Need-same-deal-requires Inv-loop μ-loop
-same-deal-requires c κs = search needs
-
-add-a : tie.Need-add-a Inv-loop μ-loop
-add-a c = omega arith
-
-loop-less : tie.Need-loop-less Inv-loop μ-loop
-loop-less c = omega arith
 
 loop-again : tie.Need-loop-again Inv-loop μ-loop
 unfolding blocks
@@ -76,12 +64,12 @@ mixed-at-spec =
     (tie.spec
     Inv-loop
     μ-loop
-    add-end
+    (λ c. omega arith)
     loop-holds
     deal-at-requires
-    same-deal-requires
-    add-a
-    loop-less
+    (λ c κs. search needs)
+    (λ c. omega arith)
+    (λ c. omega arith)
     loop-again
     returns
     returns-2)

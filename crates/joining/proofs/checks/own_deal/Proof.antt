@@ -4,12 +4,9 @@ use Rattle.joining.specs.Pile.{ownBlock}
 use Rattle.joining.proofs.checks.own_deal.Statement.{statement}
 use Rattle.joining.proofs.checks.own_deal.Tie as tie
 
-deal-at-requires : tie.Need-deal-at-requires
-deal-at-requires c κs = search needs
-
 returns : tie.Need-returns
 unfolding ownBlock
 returns c = c .deal-at .ensures
 
 pub own-deal-spec : {M : Type 1} → statement M
-own-deal-spec = tie.close (tie.spec deal-at-requires returns)
+own-deal-spec = tie.close (tie.spec (λ c κs. search needs) returns)

@@ -16,9 +16,6 @@ Inv-loop pile end table₀ a₀ table a = (1 ≤ a) × (a ≤ blocks pile + 1) �
 abbrev μ-loop : tie.MeasureT-loop
 μ-loop pile end table₀ a₀ table a = end - a
 
-add-end : tie.Need-add-end Inv-loop μ-loop
-add-end c = omega arith
-
 loop-holds : tie.Need-loop-holds Inv-loop μ-loop
 loop-holds c = (omega arith, omega arith, table-start (c .before .args .pile .now))
 
@@ -35,9 +32,6 @@ piece c =
     let e = c .word .ensures in
     (omega (arith, p .0, e), omega (arith, p .1, e, pieces-in (d .pre) .1))
 
-cast-at : tie.Need-cast-at Inv-loop μ-loop
-cast-at c = search needs
-
 sub-at : tie.Need-sub-at Inv-loop μ-loop
 sub-at c = omega (arith, piece c .0)
 
@@ -52,12 +46,6 @@ mul-table c = omega (arith, piece (c .before) .1)
 
 array-write-table : tie.Need-array-write-table Inv-loop μ-loop
 array-write-table c = omega (arith, piece (c .before) .1)
-
-add-a : tie.Need-add-a Inv-loop μ-loop
-add-a c = omega arith
-
-loop-less : tie.Need-loop-less Inv-loop μ-loop
-loop-less c = omega arith
 
 loop-again : tie.Need-loop-again Inv-loop μ-loop
 unfolding blocks
@@ -87,16 +75,16 @@ places-spec =
     (tie.spec
     Inv-loop
     μ-loop
-    add-end
+    (λ c. omega arith)
     loop-holds
     word-requires
-    cast-at
+    (λ c. search needs)
     sub-at
     mul-if1
     array-read-if1
     mul-table
     array-write-table
-    add-a
-    loop-less
+    (λ c. omega arith)
+    (λ c. omega arith)
     loop-again
     returns)

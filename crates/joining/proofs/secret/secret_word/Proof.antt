@@ -4,7 +4,7 @@ use native.Mathlib.Omega.{arith}
 use mathlib.Core.Path.{_≡_, sym, ap, subst, _∙_}
 use Prim.Native.Nat.{ℕ}
 use lib.ListN.{length, take}
-use Rattle.field.specs.Poly.{Below}
+use Rattle.prime.specs.Prime.{Below}
 use Rattle.field.specs.Joined.{joined}
 use Rattle.field.specs.Lagrange.{Weights}
 use Rattle.field.specs.Secret.{column}
@@ -28,12 +28,6 @@ counts c =
     let a = c .before .before .before .before .args in
     column-counts (valueAt (a .pile .now)) (a .k) (a .i) (a .values .now) (c .write-column .last .1 .1 .1 .1 .0) (c .write-column .ensures)
 
-write-column-requires : tie.Need-write-column-requires
-write-column-requires c κs = search needs
-
-slice-reshare-prefix-join-word : tie.Need-slice-reshare-prefix-join-word
-slice-reshare-prefix-join-word c = search needs
-
 slice-aggregate-join-word : tie.Need-slice-aggregate-join-word
 slice-aggregate-join-word c = sym (counts (c .before .before .before))
 
@@ -50,9 +44,6 @@ join-word-requires c κs =
       ),
     )
 
-same-length : tie.Need-same-length
-same-length c = search needs
-
 returns : tie.Need-returns
 returns c =
     let t = c .before .before .before .before in
@@ -62,9 +53,9 @@ pub secret-word-spec : {M : Type 1} → statement M
 secret-word-spec =
     tie.close
     (tie.spec
-    write-column-requires
-    slice-reshare-prefix-join-word
+    (λ c κs. search needs)
+    (λ c. search needs)
     slice-aggregate-join-word
     join-word-requires
-    same-length
+    (λ c. search needs)
     returns)

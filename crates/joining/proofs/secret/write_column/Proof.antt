@@ -5,7 +5,7 @@ use mathlib.Core.Path.{_≡_, refl, ap, _∙_}
 use Prim.Native.Nat.{ℕ, _+_, _-_, _≤_}
 use lib.ListN.{length, getD, length-set}
 use Rattle.lists.specs.Run.{run}
-use Rattle.answer.specs.Lent.{over}
+use Rattle.lists.specs.Over.{over}
 use Rattle.field.specs.Secret.{column}
 use Rattle.pile.specs.Blocks.{In}
 use Rattle.joining.specs.Pile.{placeOf, valueOf, valueAt}
@@ -49,31 +49,16 @@ loop-holds c =
     let d = c .before .before in
     (omega (arith, d .pre .1 .1 .0, pieces-in (d .pre .0 .unmixed) .1), omega arith, refl, refl)
 
-mul-word : tie.Need-mul-word Inv-loop μ-loop
-mul-word c = omega arith
-
-element-copy-out-word : tie.Need-element-copy-out-word Inv-loop μ-loop
-element-copy-out-word c = omega arith
-
 add-word : tie.Need-add-word Inv-loop μ-loop
 add-word c = omega (arith, value (c .before))
 
 word-requires : tie.Need-word-requires Inv-loop μ-loop
 word-requires c κs = (there (c .before) .0, there (c .before) .1, omega arith, omega (arith, value (c .before)))
 
-mul-values : tie.Need-mul-values Inv-loop μ-loop
-mul-values c = omega arith
-
 slice-write-values : tie.Need-slice-write-values Inv-loop μ-loop
 slice-write-values c =
     let d = c .before .before .before .before .before .before in
     omega (arith, d .pre .1 .1 .1 .1)
-
-add-j : tie.Need-add-j Inv-loop μ-loop
-add-j c = omega arith
-
-loop-less : tie.Need-loop-less Inv-loop μ-loop
-loop-less c = omega arith
 
 loop-again : tie.Need-loop-again Inv-loop μ-loop
 loop-again c =
@@ -106,14 +91,14 @@ write-column-spec =
     Inv-loop
     μ-loop
     loop-holds
-    mul-word
-    element-copy-out-word
+    (λ c. omega arith)
+    (λ c. omega arith)
     add-word
     word-requires
-    mul-values
+    (λ c. omega arith)
     slice-write-values
-    add-j
-    loop-less
+    (λ c. omega arith)
+    (λ c. omega arith)
     loop-again
     same-length
     returns)

@@ -6,7 +6,7 @@ use mathlib.Core.Path.{_≡_, refl, ap₂, _∙_}
 use Prim.Native.Nat.{ℕ, _-_, _≤_}
 use lib.ListN.{length, length-set}
 use Rattle.lists.specs.Run.{run}
-use Rattle.answer.specs.Lent.{over}
+use Rattle.lists.specs.Over.{over}
 use Rattle.field.specs.Joined.{joined}
 use Rattle.field.specs.Secret.{column, secretOf}
 use Rattle.joining.specs.Pile.{valueAt}
@@ -29,12 +29,6 @@ loop-holds : tie.Need-loop-holds Inv-loop μ-loop
 unfolding secretOf run over
 loop-holds c = (omega arith, refl, refl, refl)
 
-add-secret-word : tie.Need-add-secret-word Inv-loop μ-loop
-add-secret-word c = omega arith
-
-slice-aggregate-secret-word : tie.Need-slice-aggregate-secret-word Inv-loop μ-loop
-slice-aggregate-secret-word c = search needs
-
 secret-word-requires : tie.Need-secret-word-requires Inv-loop μ-loop
 secret-word-requires c κs =
     let l = c .before .before .before in
@@ -43,19 +37,10 @@ secret-word-requires c κs =
     let h = d .pre .1 .0 in
     (d .pre .0, (t .places .ensures, (h .0, (d .pre .1 .1 .0, ((omega arith, omega (arith, h .1)), omega (arith, l .loop .inv .2, h .0, pieces-in (d .pre .0 .unmixed) .1))))))
 
-mul-out : tie.Need-mul-out Inv-loop μ-loop
-mul-out c = omega arith
-
 slice-write-out : tie.Need-slice-write-out Inv-loop μ-loop
 slice-write-out c =
     let d = c .before .before .before .before .before .before .before .before .before in
     omega (arith, d .pre .1 .1 .1)
-
-add-i : tie.Need-add-i Inv-loop μ-loop
-add-i c = omega arith
-
-loop-less : tie.Need-loop-less Inv-loop μ-loop
-loop-less c = omega arith
 
 loop-again : tie.Need-loop-again Inv-loop μ-loop
 unfolding secretOf
@@ -89,13 +74,13 @@ write-secret-spec =
     μ-loop
     places-requires
     loop-holds
-    add-secret-word
-    slice-aggregate-secret-word
+    (λ c. omega arith)
+    (λ c. search needs)
     secret-word-requires
-    mul-out
+    (λ c. omega arith)
     slice-write-out
-    add-i
-    loop-less
+    (λ c. omega arith)
+    (λ c. omega arith)
     loop-again
     same-length
     returns)

@@ -6,11 +6,11 @@ use Prim.Native.Nat.{ℕ, _≤_}
 use native.Mathlib.Omega.{arith}
 use lib.ListN.{length}
 use borrow.Author.Needs.{needs}
-use Rattle.answer.specs.Places.{found}
-use Rattle.answer.proofs.FirstLaws.{place-most}
+use Rattle.lists.specs.Places.{found}
+use Rattle.lists.proofs.FirstLaws.{place-most}
 use Rattle.planning.specs.Planned.{aroundPlace, clashPlace, clash}
 use Rattle.answer.proofs.SaysLaws.{whole, passes, speaks, silent}
-use Rattle.planning.proofs.SomeLaws.{found-at, found-none}
+use Rattle.lists.proofs.SomeLaws.{found-at, found-none}
 use Rattle.planning.proofs.checks.check_clash.Statement.{statement}
 use Rattle.planning.proofs.checks.check_clash.Tie as tie
 
@@ -18,27 +18,15 @@ in-list : (required forbidden : List ℕ) → clashPlace required forbidden ≤ 
 unfolding clashPlace
 in-list required forbidden = place-most (λ r. found (aroundPlace forbidden r)) required
 
-first-clash-requires : tie.Need-first-clash-requires
-first-clash-requires c κs = search needs
-
 returns : tie.Need-returns
 unfolding clash
 returns c = silent (passes (whole _) (found-none (c .before .first-clash .ensures) (c .if1 .taken)))
-
-sub-first-around : tie.Need-sub-first-around
-sub-first-around c = search needs
 
 mul-first-around : tie.Need-mul-first-around
 mul-first-around c = omega (arith, in-list (c .before .before .before .before .args .required .now) (c .before .before .before .before .args .forbidden .now))
 
 shared-slice-read-first-around : tie.Need-shared-slice-read-first-around
 shared-slice-read-first-around c = omega (arith, in-list (c .before .before .before .before .before .args .required .now) (c .before .before .before .before .before .args .forbidden .now))
-
-first-around-requires : tie.Need-first-around-requires
-first-around-requires c κs = search needs
-
-refuse-requires : tie.Need-refuse-requires
-refuse-requires c κs = search needs
 
 returns-2 : tie.Need-returns-2
 unfolding clash
@@ -50,11 +38,11 @@ pub check-clash-spec : {M : Type 1} → statement M
 check-clash-spec =
     tie.close
     (tie.spec
-    first-clash-requires
+    (λ c κs. search needs)
     returns
-    sub-first-around
+    (λ c. search needs)
     mul-first-around
     shared-slice-read-first-around
-    first-around-requires
-    refuse-requires
+    (λ c κs. search needs)
+    (λ c κs. search needs)
     returns-2)

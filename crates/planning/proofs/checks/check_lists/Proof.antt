@@ -8,9 +8,9 @@ use borrow.Author.Tests.{eq-eqb, ne-eqb, lt-ltb, le-ltb}
 use Rattle.answer.specs.Checks.{Line}
 use Rattle.planning.specs.Policy.{Policy, policyOf}
 use Rattle.planning.specs.Planned.{people, long, strangers, nobody, opens, listLines}
-use Rattle.answer.proofs.Truth.{or-l, or-r}
+use Rattle.lists.proofs.Truth.{or-l, or-r}
 use Rattle.answer.proofs.SaysLaws.{said, Says, whole, passes, speaks, silent}
-use Rattle.planning.proofs.SomeLaws.{found-at, found-none}
+use Rattle.lists.proofs.SomeLaws.{found-at, found-none}
 use Rattle.planning.proofs.checks.check_lists.Statement.{statement}
 use Rattle.planning.proofs.checks.check_lists.Tie as tie
 
@@ -72,39 +72,21 @@ on7 : (c : tie.Else8) → Left (c .before .before .before .before .before .befor
 unfolding opens
 on7 c = passes (on6 (c .before .before)) (found-none (c .before .first-empty .ensures) (c .if8 .left))
 
-refuse-requires : tie.Need-refuse-requires
-refuse-requires c κs = search needs
-
 returns : tie.Need-returns
 unfolding people
 returns c = c .refuse .ensures ∙ speaks (all _) (or-l _ (eq-eqb _ _ (c .before .if1 .taken)))
-
-refuse-requires-2 : tie.Need-refuse-requires-2
-refuse-requires-2 c κs = search needs
 
 returns-2 : tie.Need-returns-2
 unfolding people
 returns-2 c = c .refuse2 .ensures ∙ speaks (all _) (or-r (eqb (c .before .before .before .before .before .args .people) 0) (lt-ltb _ _ (c .before .if2 .taken)))
 
-refuse-requires-3 : tie.Need-refuse-requires-3
-refuse-requires-3 c κs = search needs
-
 returns-3 : tie.Need-returns-3
 unfolding long
 returns-3 c = c .refuse3 .ensures ∙ speaks (on1 (c .before .before)) (lt-ltb _ _ (c .before .if3 .taken))
 
-refuse-requires-4 : tie.Need-refuse-requires-4
-refuse-requires-4 c κs = search needs
-
 returns-4 : tie.Need-returns-4
 unfolding long
 returns-4 c = c .refuse4 .ensures ∙ speaks (on2 (c .before .before)) (lt-ltb _ _ (c .before .if4 .taken))
-
-first-stranger-requires : tie.Need-first-stranger-requires
-first-stranger-requires c κs = search needs
-
-refuse-requires-5 : tie.Need-refuse-requires-5
-refuse-requires-5 c κs = search needs
 
 returns-5 : tie.Need-returns-5
 unfolding strangers
@@ -112,30 +94,15 @@ returns-5 c =
     let found = c .before .before .first-stranger .ensures in
     c .refuse5 .ensures ∙ rw found (speaks (on3 (c .before .before .before)) (found-at found (c .before .if5 .taken)))
 
-first-stranger-requires-2 : tie.Need-first-stranger-requires-2
-first-stranger-requires-2 c κs = search needs
-
-refuse-requires-6 : tie.Need-refuse-requires-6
-refuse-requires-6 c κs = search needs
-
 returns-6 : tie.Need-returns-6
 unfolding strangers
 returns-6 c =
     let found = c .before .before .first-stranger2 .ensures in
     c .refuse6 .ensures ∙ rw found (speaks (on4 (c .before .before .before)) (found-at found (c .before .if6 .taken)))
 
-refuse-requires-7 : tie.Need-refuse-requires-7
-refuse-requires-7 c κs = search needs
-
 returns-7 : tie.Need-returns-7
 unfolding nobody
 returns-7 c = c .refuse7 .ensures ∙ speaks (on5 (c .before .before)) (eq-eqb _ _ (c .before .if7 .taken))
-
-first-empty-requires : tie.Need-first-empty-requires
-first-empty-requires c κs = search needs
-
-refuse-requires-8 : tie.Need-refuse-requires-8
-refuse-requires-8 c κs = search needs
 
 returns-8 : tie.Need-returns-8
 unfolding opens
@@ -150,23 +117,23 @@ pub check-lists-spec : {M : Type 1} → statement M
 check-lists-spec =
     tie.close
     (tie.spec
-    refuse-requires
+    (λ c κs. search needs)
     returns
-    refuse-requires-2
+    (λ c κs. search needs)
     returns-2
-    refuse-requires-3
+    (λ c κs. search needs)
     returns-3
-    refuse-requires-4
+    (λ c κs. search needs)
     returns-4
-    first-stranger-requires
-    refuse-requires-5
+    (λ c κs. search needs)
+    (λ c κs. search needs)
     returns-5
-    first-stranger-requires-2
-    refuse-requires-6
+    (λ c κs. search needs)
+    (λ c κs. search needs)
     returns-6
-    refuse-requires-7
+    (λ c κs. search needs)
     returns-7
-    first-empty-requires
-    refuse-requires-8
+    (λ c κs. search needs)
+    (λ c κs. search needs)
     returns-8
     returns-9)

@@ -3,13 +3,13 @@
 use mathlib.Core.Bool.{Bool}
 use mathlib.Core.List.{List}
 use Prim.Native.Nat.{ℕ, _-_}
-use Rattle.answer.specs.Places.{found}
+use Rattle.lists.specs.Places.{found}
 use Rattle.planning.specs.Planned.{aroundPlace, clashPlace}
-use Rattle.planning.proofs.SomeLaws.{found-at, found-none}
+use Rattle.lists.proofs.SomeLaws.{found-at, found-none}
 use native.Mathlib.Omega.{arith}
 use lib.ListN.{length}
 use borrow.Author.Needs.{needs}
-use Rattle.answer.proofs.AheadLaws.{PlaceAhead, start, here, next, end}
+use Rattle.lists.proofs.AheadLaws.{PlaceAhead, start, here, next, end}
 use Rattle.planning.proofs.checks.first_clash.Statement.{statement}
 use Rattle.planning.proofs.checks.first_clash.Tie as tie
 
@@ -26,27 +26,9 @@ abbrev μ-loop : tie.MeasureT-loop
 loop-holds : tie.Need-loop-holds Inv-loop μ-loop
 loop-holds c = start _ _
 
-mul-first-around : tie.Need-mul-first-around Inv-loop μ-loop
-mul-first-around c = search needs
-
-shared-slice-read-first-around : tie.Need-shared-slice-read-first-around Inv-loop μ-loop
-shared-slice-read-first-around c = search needs
-
-first-around-requires : tie.Need-first-around-requires Inv-loop μ-loop
-first-around-requires c κs = search needs
-
-add-result : tie.Need-add-result Inv-loop μ-loop
-add-result c = search needs
-
 returns : tie.Need-returns Inv-loop μ-loop
 unfolding clashPlace
 returns c = here (c .before .before .before .before .loop .inv) (omega arith) (found-at (c .before .first-around .ensures) (c .if1 .taken))
-
-add-i : tie.Need-add-i Inv-loop μ-loop
-add-i c = search needs
-
-loop-less : tie.Need-loop-less Inv-loop μ-loop
-loop-less c = search needs
 
 loop-again : tie.Need-loop-again Inv-loop μ-loop
 loop-again c = next (c .before .before .before .before .loop .inv) (omega arith) (found-none (c .before .first-around .ensures) (c .if1 .left))
@@ -62,12 +44,12 @@ first-clash-spec =
     Inv-loop
     μ-loop
     loop-holds
-    mul-first-around
-    shared-slice-read-first-around
-    first-around-requires
-    add-result
+    (λ c. search needs)
+    (λ c. search needs)
+    (λ c κs. search needs)
+    (λ c. search needs)
     returns
-    add-i
-    loop-less
+    (λ c. search needs)
+    (λ c. search needs)
     loop-again
     returns-2)

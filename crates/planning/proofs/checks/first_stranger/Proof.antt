@@ -8,7 +8,7 @@ use Rattle.planning.specs.Sets.{stranger}
 use native.Mathlib.Omega.{arith}
 use lib.ListN.{length}
 use borrow.Author.Needs.{needs}
-use Rattle.answer.proofs.AheadLaws.{PlaceAhead, start, here, next, end}
+use Rattle.lists.proofs.AheadLaws.{PlaceAhead, start, here, next, end}
 use Rattle.planning.proofs.checks.first_stranger.Statement.{statement}
 use Rattle.planning.proofs.checks.first_stranger.Tie as tie
 
@@ -26,32 +26,14 @@ Inv-loop people list size i₀ i = (size ≡ 2 ^ people) × PlaceAhead (stranger
 abbrev μ-loop : tie.MeasureT-loop
 μ-loop people list size i₀ i = length list - i
 
-group-count-requires : tie.Need-group-count-requires Inv-loop μ-loop
-group-count-requires c κs = search needs
-
 loop-holds : tie.Need-loop-holds Inv-loop μ-loop
 loop-holds c = (c .group-count .ensures, start _ _)
-
-mul-if1 : tie.Need-mul-if1 Inv-loop μ-loop
-mul-if1 c = search needs
-
-shared-slice-read-if1 : tie.Need-shared-slice-read-if1 Inv-loop μ-loop
-shared-slice-read-if1 c = search needs
 
 cast-if1 : tie.Need-cast-if1 Inv-loop μ-loop
 cast-if1 c = omega (arith, c .shared-slice-known2 .given (c .before .before .loop .i))
 
-add-result : tie.Need-add-result Inv-loop μ-loop
-add-result c = search needs
-
 returns : tie.Need-returns Inv-loop μ-loop
 returns c = here (c .before .before .before .loop .inv .1) (omega arith) (names _ (c .before .before .before .loop .inv .0) (c .if1 .taken))
-
-add-i : tie.Need-add-i Inv-loop μ-loop
-add-i c = search needs
-
-loop-less : tie.Need-loop-less Inv-loop μ-loop
-loop-less c = search needs
 
 loop-again : tie.Need-loop-again Inv-loop μ-loop
 loop-again c = (search needs, next (c .before .before .before .loop .inv .1) (omega arith) (knows _ (c .before .before .before .loop .inv .0) (c .if1 .left)))
@@ -65,14 +47,14 @@ first-stranger-spec =
     (tie.spec
     Inv-loop
     μ-loop
-    group-count-requires
+    (λ c κs. search needs)
     loop-holds
-    mul-if1
-    shared-slice-read-if1
+    (λ c. search needs)
+    (λ c. search needs)
     cast-if1
-    add-result
+    (λ c. search needs)
     returns
-    add-i
-    loop-less
+    (λ c. search needs)
+    (λ c. search needs)
     loop-again
     returns-2)

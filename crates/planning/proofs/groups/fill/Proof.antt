@@ -22,20 +22,11 @@ Inv-loop f people size rows₀ k₀ g₀ rows k g =
 abbrev μ-loop : tie.MeasureT-loop
 μ-loop f people size rows₀ k₀ g₀ rows k g = size - g
 
-group-count-requires : tie.Need-group-count-requires Inv-loop μ-loop
-group-count-requires c κs = search needs
-
 loop-holds : tie.Need-loop-holds Inv-loop μ-loop
 loop-holds c = (c .group-count .ensures, size-le _ _ (c .before .pre) (c .group-count .ensures), search needs, filling-start empty-rows)
 
 maximal-requires : tie.Need-maximal-requires Inv-loop μ-loop
 maximal-requires c κs = (c .before .before .before .pre, omega arith)
-
-refuse-requires : tie.Need-refuse-requires Inv-loop μ-loop
-refuse-requires c κs = search needs
-
-plan-of-requires : tie.Need-plan-of-requires Inv-loop μ-loop
-plan-of-requires c κs = search needs
 
 returns : tie.Need-returns Inv-loop μ-loop
 unfolding groupsBy
@@ -47,12 +38,6 @@ returns c =
     (ap outcome (c .plan-of .ensures .0) ∙ c .before .refuse .ensures)
     (c .plan-of .ensures .1 ∙ empty-rows)
 
-cast-marks : tie.Need-cast-marks Inv-loop μ-loop
-cast-marks c = search needs
-
-marks-requires : tie.Need-marks-requires Inv-loop μ-loop
-marks-requires c κs = search needs
-
 mul-rows : tie.Need-mul-rows Inv-loop μ-loop
 mul-rows c = omega (arith, c .before .before .before .before .before .loop .inv .3 .few)
 
@@ -61,12 +46,6 @@ array-set-from-rows c = omega (arith, c .before .before .before .before .before 
 
 add-k : tie.Need-add-k Inv-loop μ-loop
 add-k c = omega (arith, c .before .before .before .before .before .loop .inv .3 .few)
-
-add-g : tie.Need-add-g Inv-loop μ-loop
-add-g c = search needs
-
-loop-less : tie.Need-loop-less Inv-loop μ-loop
-loop-less c = search needs
 
 loop-again : tie.Need-loop-again Inv-loop μ-loop
 loop-again c =
@@ -79,9 +58,6 @@ loop-again c =
       ⊎-elim (λ w. filling-as (filling-hit h (m ∙ w .0 .taken) (w .1 .left)) (w .4) (w .3 ∙ ap (set (l .rows) (l .k)) (w .2 .ensures)))
           (λ w. filling-as (filling-miss h (m ∙ w .0 .left)) (w .2) (w .1)) (c .if1 .came),
     )
-
-plan-of-requires-2 : tie.Need-plan-of-requires-2 Inv-loop μ-loop
-plan-of-requires-2 c κs = search needs
 
 returns-2 : tie.Need-returns-2 Inv-loop μ-loop
 unfolding groupsBy
@@ -96,19 +72,19 @@ fill-spec =
     (tie.spec
     Inv-loop
     μ-loop
-    group-count-requires
+    (λ c κs. search needs)
     loop-holds
     maximal-requires
-    refuse-requires
-    plan-of-requires
+    (λ c κs. search needs)
+    (λ c κs. search needs)
     returns
-    cast-marks
-    marks-requires
+    (λ c. search needs)
+    (λ c κs. search needs)
     mul-rows
     array-set-from-rows
     add-k
-    add-g
-    loop-less
+    (λ c. search needs)
+    (λ c. search needs)
     loop-again
-    plan-of-requires-2
+    (λ c κs. search needs)
     returns-2)

@@ -15,26 +15,8 @@ Inv-loop people required size f₀ g₀ f g = (size ≡ 2 ^ people) × (size ≤
 abbrev μ-loop : tie.MeasureT-loop
 μ-loop people required size f₀ g₀ f g = size - g
 
-group-count-requires : tie.Need-group-count-requires Inv-loop μ-loop
-group-count-requires c κs = search needs
-
 loop-holds : tie.Need-loop-holds Inv-loop μ-loop
 loop-holds c = (c .group-count .ensures, size-le _ _ (c .before .before .pre) (c .group-count .ensures), search needs, flags-none refl)
-
-cast-authorised : tie.Need-cast-authorised Inv-loop μ-loop
-cast-authorised c = search needs
-
-authorised-requires : tie.Need-authorised-requires Inv-loop μ-loop
-authorised-requires c κs = search needs
-
-array-write-f : tie.Need-array-write-f Inv-loop μ-loop
-array-write-f c = search needs
-
-add-g : tie.Need-add-g Inv-loop μ-loop
-add-g c = search needs
-
-loop-less : tie.Need-loop-less Inv-loop μ-loop
-loop-less c = search needs
 
 loop-again : tie.Need-loop-again Inv-loop μ-loop
 loop-again c = (search needs, search needs, search needs, flags-more _ (omega arith) (c .authorised .ensures) (c .before .before .loop .inv .3))
@@ -48,12 +30,12 @@ flags-spec =
     (tie.spec
     Inv-loop
     μ-loop
-    group-count-requires
+    (λ c κs. search needs)
     loop-holds
-    cast-authorised
-    authorised-requires
-    array-write-f
-    add-g
-    loop-less
+    (λ c. search needs)
+    (λ c κs. search needs)
+    (λ c. search needs)
+    (λ c. search needs)
+    (λ c. search needs)
     loop-again
     returns)

@@ -54,12 +54,6 @@ mul-worth c =
     let l = c .before .before .loop in
     omega (arith, worth-le (s .args .people) (l .i) (l .worth) (s .pre .0) (c .before .loop-test .taken) (l .inv .1 .next-worth))
 
-add-i : tie.Need-add-i Inv-loop μ-loop
-add-i c = search needs
-
-loop-less : tie.Need-loop-less Inv-loop μ-loop
-loop-less c = search needs
-
 loop-again : tie.Need-loop-again Inv-loop μ-loop
 loop-again c =
     let h = c .before .before .loop .inv .1 in
@@ -82,7 +76,7 @@ maximal-spec =
     element-copy-out-if3
     returns-2
     mul-worth
-    add-i
-    loop-less
+    (λ c. search needs)
+    (λ c. search needs)
     loop-again
     returns-3)

@@ -7,7 +7,8 @@ use native.Mathlib.Omega.{arith}
 use lib.ListN.{length}
 use borrow.Author.Needs.{needs}
 use Rattle.planning.specs.Sets.{inside}
-use Rattle.planning.specs.Groups.{some, authorised}
+use Rattle.lists.specs.Some.{some}
+use Rattle.planning.specs.Groups.{authorised}
 use Rattle.planning.proofs.LoopLaws.{SomeAhead, some-start, some-here, some-next, some-end}
 use Rattle.planning.proofs.sets.authorised.Statement.{statement}
 use Rattle.planning.proofs.sets.authorised.Tie as tie
@@ -25,24 +26,9 @@ abbrev μ-loop : tie.MeasureT-loop
 loop-holds : tie.Need-loop-holds Inv-loop μ-loop
 loop-holds c = some-start _ _
 
-mul-inside : tie.Need-mul-inside Inv-loop μ-loop
-mul-inside c = search needs
-
-shared-slice-read-inside : tie.Need-shared-slice-read-inside Inv-loop μ-loop
-shared-slice-read-inside c = search needs
-
-inside-requires : tie.Need-inside-requires Inv-loop μ-loop
-inside-requires c κs = search needs
-
 returns : tie.Need-returns Inv-loop μ-loop
 unfolding authorised
 returns c = some-here (c .before .before .before .before .loop .inv) (omega arith) (sym (c .before .inside .ensures) ∙ c .if1 .taken)
-
-add-i : tie.Need-add-i Inv-loop μ-loop
-add-i c = search needs
-
-loop-less : tie.Need-loop-less Inv-loop μ-loop
-loop-less c = search needs
 
 loop-again : tie.Need-loop-again Inv-loop μ-loop
 loop-again c = some-next (c .before .before .before .before .loop .inv) (omega arith) (sym (c .before .inside .ensures) ∙ c .if1 .left)
@@ -58,11 +44,11 @@ authorised-spec =
     Inv-loop
     μ-loop
     loop-holds
-    mul-inside
-    shared-slice-read-inside
-    inside-requires
+    (λ c. search needs)
+    (λ c. search needs)
+    (λ c κs. search needs)
     returns
-    add-i
-    loop-less
+    (λ c. search needs)
+    (λ c. search needs)
     loop-again
     returns-2)

@@ -14,11 +14,8 @@ exact n h =
     let small : 1 * 2 ^ n < 2 ^ 64 = omega arith in
     mod-eq-of-lt small ∙ omega arith
 
-shl-result : tie.Need-shl-result
-shl-result c = search needs
-
 returns : tie.Need-returns
 returns c = exact (c .args .people) (c .pre)
 
 pub group-count-spec : {M : Type 1} → statement M
-group-count-spec = tie.close (tie.spec shl-result returns)
+group-count-spec = tie.close (tie.spec (λ c. search needs) returns)

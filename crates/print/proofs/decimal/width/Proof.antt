@@ -17,9 +17,6 @@ loop-holds c = counting-first (c .args .n) (omega arith)
 add-count : tie.Need-add-count Inv-loop μ-loop
 add-count c = omega (arith, c .before .loop .inv .few-counted)
 
-loop-less : tie.Need-loop-less Inv-loop μ-loop
-loop-less c = omega arith
-
 loop-again : tie.Need-loop-again Inv-loop μ-loop
 loop-again c = counting-more _ _ _ (c .loop-test .taken) (c .before .loop .inv)
 
@@ -27,4 +24,4 @@ returns : tie.Need-returns Inv-loop μ-loop
 returns c = counting-done _ _ _ (omega arith) (c .before .loop .inv)
 
 pub width-spec : {M : Type 1} → statement M
-width-spec = tie.close (tie.spec Inv-loop μ-loop loop-holds add-count loop-less loop-again returns)
+width-spec = tie.close (tie.spec Inv-loop μ-loop loop-holds add-count (λ c. omega arith) loop-again returns)

@@ -59,16 +59,10 @@ written-3 c = _then_ (written-2 (c .before .before .before .before)) (c .write-n
 written-4 : (c : tie.After-write-number3) → Writes (second (start-4 c)) 0 (now (start-4 c .args .out)) (c .write-number3 .last .0) (c .write-number3 .result)
 written-4 c = _then_ (written-3 (c .before .before .before .before)) (c .write-number3 .ensures) (second-room (start-4 c))
 
-slice-aggregate-write-bytes : tie.Need-slice-aggregate-write-bytes
-slice-aggregate-write-bytes c = search needs
-
 write-bytes-requires : tie.Need-write-bytes-requires
 write-bytes-requires c κs =
     let s = c .before .before .before in
     room-first refusedWord (spaced (number (s .args .refusal .kind))) (numbered-room s)
-
-number-of-requires : tie.Need-number-of-requires
-number-of-requires c κs = search needs
 
 write-number-requires : tie.Need-write-number-requires
 write-number-requires c κs =
@@ -85,16 +79,10 @@ write-number-requires-3 c κs =
     let w = c .before .before .before in
     room-next (spaced (start-3 w .args .refusal .b)) (written-3 w) (second-room (start-3 w))
 
-slice-aggregate-write-bytes-2 : tie.Need-slice-aggregate-write-bytes-2
-slice-aggregate-write-bytes-2 c = search needs
-
 write-bytes-requires-2 : tie.Need-write-bytes-requires-2
 write-bytes-requires-2 c κs =
     let w = c .before .before .before .before in
     room-next feed (written-4 w) (all-room (start-4 w))
-
-same-length : tie.Need-same-length
-same-length c = search needs
 
 returns : tie.Need-returns
 unfolding refusedLine
@@ -106,13 +94,13 @@ pub write-refusal-spec : {M : Type 1} → statement M
 write-refusal-spec =
     tie.close
     (tie.spec
-    slice-aggregate-write-bytes
+    (λ c. search needs)
     write-bytes-requires
-    number-of-requires
+    (λ c κs. search needs)
     write-number-requires
     write-number-requires-2
     write-number-requires-3
-    slice-aggregate-write-bytes-2
+    (λ c. search needs)
     write-bytes-requires-2
-    same-length
+    (λ c. search needs)
     returns)

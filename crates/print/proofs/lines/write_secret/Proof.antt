@@ -7,9 +7,6 @@ use Rattle.print.proofs.WrittenLaws.{room-1, room-2, room-3, three-writ
 use Rattle.print.proofs.lines.write_secret.Statement.{statement}
 use Rattle.print.proofs.lines.write_secret.Tie as tie
 
-slice-aggregate-write-bytes : tie.Need-slice-aggregate-write-bytes
-slice-aggregate-write-bytes c = search needs
-
 write-bytes-requires : tie.Need-write-bytes-requires
 unfolding secretLine
 write-bytes-requires c κs =
@@ -23,9 +20,6 @@ write-words-requires c κs =
     let s = w .before .before .before .before .before in
     room-2 secretWord (spacedAll (now (s .args .words))) feed (s .pre) (w .write-bytes .ensures)
 
-slice-aggregate-write-bytes-2 : tie.Need-slice-aggregate-write-bytes-2
-slice-aggregate-write-bytes-2 c = search needs
-
 write-bytes-requires-2 : tie.Need-write-bytes-requires-2
 unfolding secretLine
 write-bytes-requires-2 c κs =
@@ -33,9 +27,6 @@ write-bytes-requires-2 c κs =
     let w = v .before .before .before .before in
     let s = w .before .before .before .before .before in
     room-3 secretWord (spacedAll (now (s .args .words))) feed (s .pre) (w .write-bytes .ensures) (v .write-words .ensures)
-
-same-length : tie.Need-same-length
-same-length c = search needs
 
 returns : tie.Need-returns
 unfolding secretLine
@@ -50,10 +41,10 @@ pub write-secret-spec : {M : Type 1} → statement M
 write-secret-spec =
     tie.close
     (tie.spec
-    slice-aggregate-write-bytes
+    (λ c. search needs)
     write-bytes-requires
     write-words-requires
-    slice-aggregate-write-bytes-2
+    (λ c. search needs)
     write-bytes-requires-2
-    same-length
+    (λ c. search needs)
     returns)

@@ -23,24 +23,12 @@ loop-holds : tie.Need-loop-holds Inv-loop μ-loop
 unfolding spacedAll
 loop-holds c = (omega arith, nothing _ _, refl)
 
-mul-write-number : tie.Need-mul-write-number Inv-loop μ-loop
-mul-write-number c = omega arith
-
-shared-slice-read-write-number : tie.Need-shared-slice-read-write-number Inv-loop μ-loop
-shared-slice-read-write-number c = omega arith
-
 cast-write-number : tie.Need-cast-write-number Inv-loop μ-loop
 cast-write-number c = omega (arith, c .shared-slice-known2 .given (c .before .before .before .loop .i))
 
 write-number-requires : tie.Need-write-number-requires Inv-loop μ-loop
 write-number-requires c κs =
     words-room _ _ (omega arith) (c .before .before .before .loop .inv .1) (c .before .before .before .before .before .before .pre)
-
-add-i : tie.Need-add-i Inv-loop μ-loop
-add-i c = omega arith
-
-loop-less : tie.Need-loop-less Inv-loop μ-loop
-loop-less c = omega arith
 
 loop-again : tie.Need-loop-again Inv-loop μ-loop
 loop-again c =
@@ -65,12 +53,12 @@ write-words-spec =
     Inv-loop
     μ-loop
     loop-holds
-    mul-write-number
-    shared-slice-read-write-number
+    (λ c. omega arith)
+    (λ c. omega arith)
     cast-write-number
     write-number-requires
-    add-i
-    loop-less
+    (λ c. omega arith)
+    (λ c. omega arith)
     loop-again
     same-length
     returns)

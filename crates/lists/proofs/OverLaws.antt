@@ -1,0 +1,17 @@
+-- A list that is written over the front of another, number by number.
+-- Assumes nothing.
+use mathlib.Core.Path.{_≡_, refl, sym, _∙_}
+use mathlib.Core.List.{List, [], _∷_, _++_}
+use native.Mathlib.Omega.{arith}
+use Prim.Native.Nat.{ℕ, suc, _<_}
+use lib.ListN.{length, getD, set, drop, length-append}
+use lib.Seq.{drop-cons, set-at, append-snoc}
+use Rattle.lists.specs.Over.{over}
+
+-- one number more, behind those that are written
+pub over-more : (new old : List ℕ) (v : ℕ) → length new < length old → set (over new old) (length new) v ≡ over (new ++ v ∷ []) old
+unfolding over
+over-more new old v h =
+    let s : length (new ++ v ∷ []) ≡ suc (length new) = omega (arith, length-append new (v ∷ [])) in
+    let rest = drop (suc (length new)) old in
+    rw (s, drop-cons old (length new) 0 h) (set-at new (getD old (length new) 0) rest v (length new) refl ∙ sym (append-snoc new v rest))

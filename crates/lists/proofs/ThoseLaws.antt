@@ -1,0 +1,141 @@
+-- The numbers with a test, in rising order: one turn, which numbers they are, that they rise, and how many they are.
+-- Assumes nothing.
+use mathlib.Core.Path.{_≡_, refl, sym, ap, ap₂, _∙_}
+use mathlib.Core.Bool.{Bool, true, false, cond, false≢true}
+use mathlib.Core.Logic.{⊎-elim}
+use mathlib.Core.List.{List, [], _∷_, _++_, append-nil, List·Memᴰ, List·Memᴰ·head, List·Memᴰ·tail, List·Memᴰ·not-nil, List·Memᴰ·cases-cons, List·Memᴰ·append-cases, List·Memᴰ·eq-of-singleton, Memᴰ·append-left, Memᴰ·append-right}
+use Prim.Native.Nat.{ℕ, zero, suc, _+_, _≤_, _<_, suc-le-suc, zero-le}
+use native.Mathlib.Nat.{le-refl, le-of-eq, eq-or-lt-of-le, not-suc-le-zero, le-of-suc-le-suc}
+use native.Mathlib.Numerals.{add-one}
+use native.Mathlib.Omega.{arith}
+use lib.ListN.{length, getD, length-append, List·getD-append}
+use lib.Seq.{getD-at}
+use Rattle.lists.specs.Places.{those}
+
+-- ---- what stands in a list
+pub at-in : {A : Type 0} (d : A) (l : List A) (j : ℕ) → j < length l → List·Memᴰ (getD l j d) l
+at-in d [] j h = absurd (not-suc-le-zero h)
+at-in d (a ∷ l) zero h = List·Memᴰ·head refl
+at-in d (a ∷ l) (suc j) h = List·Memᴰ·tail (at-in d l j (le-of-suc-le-suc h))
+
+pub in-at : {A : Type 0} (d : A) (l : List A) (s : A) → List·Memᴰ s l → (j : ℕ) × (j < length l) × (getD l j d ≡ s)
+in-at d [] s m = absurd (List·Memᴰ·not-nil m)
+in-at d (a ∷ l) s m =
+    ⊎-elim (λ (e : s ≡ a). (zero, suc-le-suc zero-le, sym e)) (λ (k : List·Memᴰ s l). let r = in-at d l s k in (suc (r .0), suc-le-suc (r .1), r .2))
+    (List·Memᴰ·cases-cons m)
+
+module _ (test : ℕ → Bool) (i : ℕ) where
+  -- ---- one number more
+  pub those-miss : (n : ℕ) → test (i + n) ≡ false → those test i (n + 1) ≡ those test i n
+  unfolding those
+  those-miss n e = rw (add-one n, e) (append-nil (those test i n))
+
+  pub those-hit : (n : ℕ) → test (i + n) ≡ true → those test i (n + 1) ≡ those test i n ++ (i + n) ∷ []
+  unfolding those
+  those-hit n e = rw (add-one n, e)
+
+  pub count-miss : (n k : ℕ) → k ≡ length (those test i n) → test (i + n) ≡ false → k ≡ length (those test i (n + 1))
+  count-miss n k h e = h ∙ ap length (sym (those-miss n e))
+
+  pub count-hit : (n k : ℕ) → k ≡ length (those test i n) → test (i + n) ≡ true → k + 1 ≡ length (those test i (n + 1))
+  count-hit n k h e = rw (those-hit n e) (omega (arith, length-append (those test i n) ((i + n) ∷ [])))
+
+  -- ---- which they are
+  in-one : (b : Bool) (c s : ℕ) → List·Memᴰ s (cond b (c ∷ []) []) → (s ≡ c) × (b ≡ true)
+  in-one true c s m = (List·Memᴰ·eq-of-singleton m, refl)
+  in-one false c s m = absurd (List·Memᴰ·not-nil m)
+
+  one-in : (b : Bool) (c s : ℕ) → s ≡ c → b ≡ true → List·Memᴰ s (cond b (c ∷ []) [])
+  one-in true c s e t = List·Memᴰ·head e
+  one-in false c s e t = absurd (false≢true t)
+
+  pub in-those : (n s : ℕ) → List·Memᴰ s (those test i n) → (i ≤ s) × (s < i + n) × (test s ≡ true)
+  unfolding those
+  in-those zero s m = absurd (List·Memᴰ·not-nil m)
+  in-those (suc n) s m =
+      ⊎-elim
+      (λ (k : List·Memᴰ s (those test i n)). let r = in-those n s k in (r .0, omega arith, r .2))
+      (λ (k : List·Memᴰ s (cond (test (i + n)) ((i + n) ∷ []) [])).
+      let r = in-one (test (i + n)) (i + n) s k in
+      (omega arith, omega arith, ap test (r .0) ∙ r .1))
+      (List·Memᴰ·append-cases (those test i n) m)
+
+  pub those-in : (n s : ℕ) → i ≤ s → s < i + n → test s ≡ true → List·Memᴰ s (those test i n)
+  unfolding those
+  those-in zero s l h t = absurd (omega arith)
+  those-in (suc n) s l h t =
+      ⊎-elim
+      (λ (e : s ≡ i + n). Memᴰ·append-right (those test i n) (one-in (test (i + n)) (i + n) s e (ap test (sym e) ∙ t)))
+      (λ (less : s < i + n). Memᴰ·append-left (cond (test (i + n)) ((i + n) ∷ []) []) (those-in n s l less t))
+      (eq-or-lt-of-le (omega arith))
+
+  -- ---- how many they are
+  at-most-one : (b : Bool) (c : ℕ) → length (cond b (c ∷ []) []) ≤ 1
+  at-most-one true c = le-refl 1
+  at-most-one false c = zero-le
+
+  pub those-few : (n : ℕ) → length (those test i n) ≤ n
+  unfolding those
+  those-few zero = zero-le
+  those-few (suc n) =
+      omega (arith, those-few n, length-append (those test i n) (cond (test (i + n)) ((i + n) ∷ []) []), at-most-one (test (i + n)) (i + n))
+
+  pub those-more : (n c : ℕ) → n ≤ c → length (those test i n) ≤ length (those test i c)
+  unfolding those
+  those-more n zero h = let e : n ≡ 0 = omega arith in le-of-eq (ap (λ (x : ℕ). length (those test i x)) e)
+  those-more n (suc c) h =
+      ⊎-elim (λ (e : n ≡ suc c). le-of-eq (ap (λ (x : ℕ). length (those test i x)) e))
+      (λ (less : n < suc c).
+      omega (arith, those-more n c (le-of-suc-le-suc less), length-append (those test i c) (cond (test (i + c)) ((i + c) ∷ []) [])))
+      (eq-or-lt-of-le h)
+
+  -- where all n are there, each has the test
+  all-step : (b : Bool) (c k n : ℕ) → k ≤ n → k + length (cond b (c ∷ []) []) ≡ suc n → (b ≡ true) × (k ≡ n)
+  all-step true c k n h e = (refl, omega arith)
+  all-step false c k n h e = absurd (omega arith)
+
+  pub those-all : (n : ℕ) → length (those test i n) ≡ n → (s : ℕ) → i ≤ s → s < i + n → test s ≡ true
+  unfolding those
+  those-all zero e s l h = absurd (omega arith)
+  those-all (suc n) e s l h =
+      let r = all-step (test (i + n)) (i + n) (length (those test i n)) n (those-few n)
+      (sym (length-append (those test i n) (cond (test (i + n)) ((i + n) ∷ []) [])) ∙ e) in
+      ⊎-elim (λ (same : s ≡ i + n). ap test same ∙ r .0) (λ (less : s < i + n). those-all n (r .1) s l less) (eq-or-lt-of-le (omega arith))
+
+  -- and where each has the test, all n are there
+  pub those-full : (n : ℕ) → ((s : ℕ) → i ≤ s → s < i + n → test s ≡ true) → length (those test i n) ≡ n
+  unfolding those
+  those-full zero h = refl
+  those-full (suc n) h =
+      rw (h (i + n) (omega arith) (omega arith))
+      (omega (arith, length-append (those test i n) ((i + n) ∷ []), those-full n (λ s l m. h s l (omega arith))))
+
+-- a test that agrees on the numbers gives the same numbers
+pub those-same : (f g : ℕ → Bool) (i n : ℕ) → ((s : ℕ) → i ≤ s → s < i + n → f s ≡ g s) → those f i n ≡ those g i n
+unfolding those
+those-same f g i zero h = refl
+those-same f g i (suc n) h =
+    ap₂ (λ (l : List ℕ) (b : Bool). l ++ cond b ((i + n) ∷ []) [])
+    (those-same f g i n (λ s l m. h s l (omega arith))) (h (i + n) (omega arith) (omega arith))
+
+-- ---- they rise
+pub record Rises (l : List ℕ) : Type 0 where
+  pub rise : (a b : ℕ) → a < b → b < length l → getD l a 0 < getD l b 0
+
+rises-more : (l : List ℕ) (c : ℕ) → ((s : ℕ) → List·Memᴰ s l → s < c) → Rises l → Rises (l ++ c ∷ [])
+rises-more l c below h = record {
+  rise = λ a b p q.
+      ⊎-elim (λ (e : b ≡ length l).
+      rw (getD-at l c [] 0 b (sym e), List·getD-append l (c ∷ []) 0 a (omega arith)) (below (getD l a 0) (at-in 0 l a (omega arith))))
+      (λ (r : b < length l). rw (List·getD-append l (c ∷ []) 0 a (omega arith), List·getD-append l (c ∷ []) 0 b r) (h .rise a b p r))
+      (eq-or-lt-of-le (le-of-suc-le-suc (omega (arith, length-append l (c ∷ [])))));
+}
+
+rises-if : (b : Bool) (l : List ℕ) (c : ℕ) → ((s : ℕ) → List·Memᴰ s l → s < c) → Rises l → Rises (l ++ cond b (c ∷ []) [])
+rises-if true l c below h = rises-more l c below h
+rises-if false l c below h = rw (append-nil l) h
+
+pub those-rise : (test : ℕ → Bool) (i n : ℕ) → Rises (those test i n)
+unfolding those
+those-rise test i zero = record { rise = λ a b p q. absurd (not-suc-le-zero q) }
+those-rise test i (suc n) = rises-if (test (i + n)) (those test i n) (i + n) (λ s m. in-those test i n s m .1) (those-rise test i n)

@@ -1,0 +1,3 @@
+pub mod Mod
+pub mod Prime
+pub mod Laws

@@ -1,0 +1,3 @@
+pub mod Prime
+pub mod Inverse
+pub mod Laws

@@ -1,0 +1,38 @@
+-- What the exported functions answer: three numbers, and what they leave in the buffers of fixed size that are lent to them.
+-- Assumes nothing.
+use mathlib.Core.Bool.{Bool, false, cond}
+use mathlib.Core.List.{List}
+use Prim.Native.Nat.{ℕ, _+_}
+use lib.ListN.{getD}
+use Rattle.answer.specs.Outcome.{Outcome, done, refused}
+use Rattle.answer.specs.Lent.{left}
+use Rattle.planning.specs.Groups.{groups}
+use Rattle.planning.specs.Policy.{Policy}
+use Rattle.planning.specs.Planned.{planned}
+use Rattle.block.specs.Layout.{headerOf}
+use Rattle.block.specs.Open.{opening}
+use Rattle.titmeadow.specs.declared.Said.{Said}
+
+-- a result: number 0, its value in a; a refusal: its number and its two places
+abbrev pub said : Outcome ℕ → Said
+said (done v) = record { number = 0; a = v; b = 0 }
+said (refused m a b) = record { number = m; a = a; b = b }
+
+-- the outcome of opening, where the result is how many words were written: seven
+abbrev pub seven : {A : Type 0} → Outcome A → Outcome ℕ
+seven (done v) = done 7
+seven (refused m a b) = refused m a b
+
+-- the group whose row of member marks this is: person i is worth 2^(i−1)
+unfoldable pub numberOf : List Bool → ℕ
+numberOf row =
+    cond (getD row 0 false) 1 0 + cond (getD row 1 false) 2 0 + cond (getD row 2 false) 4 0 + cond (getD row 3 false) 8 0
+    + cond (getD row 4 false) 16 0 + cond (getD row 5 false) 32 0 + cond (getD row 6 false) 64 0 + cond (getD row 7 false) 128 0
+
+-- the group of each piece over the front of what was lent; refused, nothing changes
+abbrev pub groupsInto : Policy → List ℕ → List ℕ
+groupsInto p old = left (planned p) (groups (p .people) (p .required)) old
+
+-- words 1 to 7 in the seven places that were lent; refused, nothing changes
+abbrev pub headInto : List ℕ → List ℕ → List ℕ
+headInto pile old = left (opening pile) (headerOf pile) old

@@ -1,0 +1,167 @@
+// The functions for firmware, exported for C (include/titmeadow.h). Each is a thin function over one proved function.
+use answer::Answer;
+use block::Opened;
+use block::Words;
+ghost use mathlib.Core.Path.{_≡_};
+ghost use mathlib.Core.Bool.{cond};
+ghost use mathlib.Core.List.{map};
+ghost use Prim.Native.Nat.{_≤_};
+ghost use lib.ListN.{length, take};
+ghost use Rattle.answer.specs.Outcome.{outcome};
+ghost use Rattle.lists.specs.Over.{over};
+ghost use Rattle.planning.specs.Policy.{policyOf};
+ghost use Rattle.planning.specs.Planned.{planned};
+ghost use Rattle.block.specs.Open.{opening, wordsOf};
+ghost use Rattle.dealing.specs.Deal.{dealFrom};
+ghost use Rattle.dealing.specs.Dealt.{dealing, dealtInto};
+ghost use Rattle.joining.specs.Joined.{joining, joinedInto};
+ghost use Rattle.titmeadow.specs.Said.{said, seven, numberOf, groupsInto, headInto};
+
+// Number 0: a result, its value in a; else a refusal and its two places.
+#[repr(C)]
+pub struct Said {
+    pub number: usize,
+    pub a: usize,
+    pub b: usize,
+}
+
+// An answer as three numbers.
+fn said_of(x: Answer) -> Said
+    ensures { λ r. ⌜ r ≡ said (outcome x) ⌝ }
+{
+    match x {
+        Answer::Done(v) => Said {
+            number: 0,
+            a: v,
+            b: 0,
+        },
+        Answer::Refused(r) => {
+            let kind = r.kind;
+            let a = r.a;
+            let b = r.b;
+            let number = answer::number_of(kind);
+            Said { number, a, b }
+        }
+    }
+}
+
+// What a mark is worth.
+fn worth(mark: bool, v: u16) -> u16
+    ensures { λ r. ⌜ (r ≡ cond mark v 0) × (r ≤ v) ⌝ }
+{
+    if mark { v } else { 0 }
+}
+
+// The group whose row of member marks this is.
+fn group_of(row: [bool; 8]) -> u16
+    ensures { λ r. ⌜ r ≡ numberOf row ⌝ }
+{
+    worth(row[0], 1)
+        + worth(row[1], 2)
+        + worth(row[2], 4)
+        + worth(row[3], 8)
+        + worth(row[4], 16)
+        + worth(row[5], 32)
+        + worth(row[6], 64)
+        + worth(row[7], 128)
+}
+
+// The groups of the first k rows over the front of `groups`.
+fn write_groups(rows: &[[bool; 8]; 70], k: usize, groups: &mut [u16])
+    requires { ⌜ (k ≤ 70) × (length (now rows) ≡ 70) × (length (now groups) ≡ 70) ⌝ }
+    ensures { λ _. ⌜ now (groups .exit) ≡ over (map numberOf (take k (now (rows .entry)))) (now (groups .entry)) ⌝ }
+{
+    let mut j: usize = 0;
+    while j < k {
+        let row = rows[j];
+        groups[j] = group_of(row);
+        j += 1;
+    }
+}
+
+// k, and the group of each piece in the first k of the 70 places lent.
+#[no_mangle]
+pub extern "C" fn titmeadow_plan(
+    people: usize,
+    required: &[u16],
+    forbidden: &[u16],
+    groups: &mut [u16; 70],
+) -> Said
+    ensures says { λ r. ⌜ r ≡ said (planned (policyOf people (now (required .entry)) (now (forbidden .entry)))) ⌝ }
+    ensures leaves { λ r. ⌜ now (groups .exit) ≡ groupsInto (policyOf people (now (required .entry)) (now (forbidden .entry))) (now (groups .entry)) ⌝ }
+{
+    let plan = planning::plan(people, required, forbidden);
+    match planning::answer_of(plan) {
+        Answer::Done(k) => {
+            let rows = planning::rows_of(plan);
+            write_groups(&rows, k, groups);
+            said_of(Answer::Done(k))
+        }
+        Answer::Refused(r) => said_of(Answer::Refused(r)),
+    }
+}
+
+// One holder's card into the front of `card`: the number of blocks.
+#[no_mangle]
+pub extern "C" fn titmeadow_deal(
+    people: usize,
+    required: &[u16],
+    forbidden: &[u16],
+    deal: usize,
+    holder: usize,
+    secret: &[u16],
+    random: &[u16],
+    card: &mut [u8],
+) -> Said
+    ensures says { λ r. ⌜ r ≡ said (dealing (dealFrom (policyOf people (now (required .entry)) (now (forbidden .entry))) deal (now (secret .entry)) (now (random .entry))) holder (length (now (card .entry)))) ⌝ }
+    ensures leaves { λ r. ⌜ now (card .exit) ≡ dealtInto (dealFrom (policyOf people (now (required .entry)) (now (forbidden .entry))) deal (now (secret .entry)) (now (random .entry))) holder (now (card .entry)) ⌝ }
+{
+    said_of(dealing::deal(
+        people,
+        required,
+        forbidden,
+        deal,
+        holder,
+        secret,
+        random,
+        card,
+    ))
+}
+
+// The secret of a pile into the front of `secret`: the number of its words.
+#[no_mangle]
+pub extern "C" fn titmeadow_join(pile: &[u8], secret: &mut [u16]) -> Said
+    ensures says { λ r. ⌜ r ≡ said (joining (now (pile .entry)) (length (now (secret .entry)))) ⌝ }
+    ensures leaves { λ r. ⌜ now (secret .exit) ≡ joinedInto (now (pile .entry)) (now (secret .entry)) ⌝ }
+{
+    said_of(joining::join(pile, secret))
+}
+
+// Words 1 to 7 over seven places.
+fn write_head(h: Words, head: &mut [u16])
+    requires { ⌜ length (now head) ≡ 7 ⌝ }
+    ensures { λ _. ⌜ now (head .exit) ≡ over (wordsOf h) (now (head .entry)) ⌝ }
+{
+    head[0] = h.mark;
+    head[1] = h.deal;
+    head[2] = h.holder;
+    head[3] = h.people;
+    head[4] = h.pieces;
+    head[5] = h.width;
+    head[6] = h.piece;
+}
+
+// Words 1 to 7 of the first block of a pile into the seven places lent; the result is 7.
+#[no_mangle]
+pub extern "C" fn titmeadow_open(pile: &[u8], head: &mut [u16; 7]) -> Said
+    ensures says { λ r. ⌜ r ≡ said (seven (opening (now (pile .entry)))) ⌝ }
+    ensures leaves { λ r. ⌜ now (head .exit) ≡ headInto (now (pile .entry)) (now (head .entry)) ⌝ }
+{
+    match block::open(pile) {
+        Opened::Head(h) => {
+            write_head(h, head);
+            said_of(Answer::Done(7))
+        }
+        Opened::Refused(r) => said_of(Answer::Refused(r)),
+    }
+}
