@@ -24,7 +24,7 @@ use Rattle.policy.proofs.ShapeLaws.{told, first-shape}
 -- ---- which refusal
 -- a text that is too long, or its first bad line
 record Refused (text : List ℕ) (m a b : ℕ) : Type 0 where
-  kind : m ≡ number Text
+  kind : m ≡ 21
   second : b ≡ 0
   first : ((a ≡ 0) × (16384 < length text)) ⊎ ((length text ≤ 16384) × (1 ≤ a) × (badLine (lines text) ≡ a))
 

@@ -5,8 +5,7 @@ use mathlib.Core.List.{List, [], _∷_, _++_, List·Memᴰ}
 use mathlib.Core.Logic.{_⊎_}
 use Prim.Native.Nat.{ℕ, _≤_, _<_, _^_}
 use lib.ListN.{length}
-use Rattle.answer.specs.declared.Kind.the-variants.{Text}
-use Rattle.answer.specs.Outcome.{Outcome, done, refused, number}
+use Rattle.answer.specs.Outcome.{Outcome, done, refused}
 use Rattle.lists.specs.Places.{those}
 use Rattle.planning.specs.Sets.{member}
 use Rattle.planning.specs.Policy.{Policy, policyOf}
@@ -119,7 +118,7 @@ pub record FirstBad (text : List ℕ) (a : ℕ) : Type 0 where
 
 -- A text is refused with 21 and b = 0, and with nothing else.
 abbrev pub TextRefusal : Type 0
-TextRefusal = (text : List ℕ) (m a b : ℕ) → readPolicy text ≡ refused m a b → (m ≡ number Text) × (b ≡ 0)
+TextRefusal = (text : List ℕ) (m a b : ℕ) → readPolicy text ≡ refused m a b → (m ≡ 21) × (b ≡ 0)
 
 -- a = 0 says that the text has more than 16,384 bytes.
 abbrev pub TextLong : Type 0
