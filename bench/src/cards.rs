@@ -1,8 +1,8 @@
-//! Card files of a deal, for the samples and for the custodians' trial of every group.
-use crate::inputs::card;
+//! Cards of the proved dealer, for the samples and for the custodians' trial of every group.
+use crate::inputs::{card, with_word};
 use crate::numbers::Numbers;
-use crate::reference::{plan, Deal};
-use std::path::Path;
+use crate::reference::{plan, Deal, BLOCK};
+use crate::unit;
 
 /// A set of persons, numbered from 1.
 pub fn set(persons: &[usize]) -> u16 {
@@ -22,10 +22,21 @@ pub fn deal_of(people: usize, required: Vec<u16>, number: usize, secret: &[u16],
     Deal { people, required, forbidden: Vec::new(), number, secret: secret.to_vec(), random }
 }
 
-/// One file for each custodian: card1, card2, ..
-pub fn write_cards(d: &Deal, folder: &Path) {
-    std::fs::create_dir_all(folder).unwrap();
-    for person in 1..=d.people {
-        std::fs::write(folder.join(format!("card{person}")), card(d, person)).unwrap();
-    }
+/// A holder's card as the proved library deals it; the independent implementation must write the same bytes.
+pub fn dealt(d: &Deal, holder: usize) -> Vec<u8> {
+    let mut out = vec![0; 70 * BLOCK];
+    let blocks = unit::deal(d, holder, &mut out).expect("an accepted deal");
+    out.truncate(blocks * BLOCK);
+    assert!(out == card(d, holder), "the proved dealer and the independent one differ: holder {holder} of {d:?}");
+    out
+}
+
+/// The files of samples/ that are dealt: the six cards of a deal by Example 1, and a pile of four of them with one dirty slot.
+pub fn samples() -> Vec<(String, Vec<u8>)> {
+    let d = deal_of(6, example_1(), 1987, &[1234, 0, 32748, 5678], 7);
+    let mut files: Vec<_> = (1..=6).map(|holder| (format!("card{holder}"), dealt(&d, holder))).collect();
+    let mut pile = [1, 2, 5, 6].map(|holder| dealt(&d, holder)).concat();
+    with_word(&mut pile[4 * BLOCK..5 * BLOCK], 9, 32767, false);
+    files.push(("dirty".to_string(), pile));
+    files
 }

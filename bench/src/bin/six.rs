@@ -1,6 +1,7 @@
-//! The custodians' trial: every group of six, on card files, through ./join. Writes docs/SIX.md; ends with status 1 where a group
-//! that contains a required set got anything but the secret, or another group anything but SHORT.
-use bench::cards::{deal_of, example_1, set, write_cards};
+//! The custodians' trial: every group of six, on card files of the proved dealer, through ./join. Writes docs/SIX.md; fails where a group
+//! that contains a required set got anything but the secret, or another group anything but SHORT, and where a card differs from the
+//! independent implementation's.
+use bench::cards::{deal_of, dealt, example_1, set};
 use bench::reference::joining;
 use std::fmt::Write;
 use std::io::Write as _;
@@ -21,14 +22,20 @@ fn main() {
         ("any three of six", threes),
         ("1 with 2, or 3, 4, 5 and 6", vec![set(&[1, 2]), set(&[3, 4, 5, 6])]),
     ];
-    let mut page = String::from("# Every group of six\n\nAll 64 groups of six custodians, their card files piped into `./join`, for three policies. Written by\n`cargo run --release --bin six` in bench/, which fails where a group got what it should not.\n");
-    let mut wrong = 0;
+    let mut tables = String::new();
+    let (mut wrong, mut cards, mut bytes) = (0, 0, 0);
     for (at, (name, required)) in policies.into_iter().enumerate() {
         let secret = [4711, 815, 32748];
         let d = deal_of(6, required, 100 + at, &secret, 11 + at as u64);
         let folder = top.join(format!("target/six{at}"));
-        write_cards(&d, &folder);
-        writeln!(page, "\n## {name}\n\nSecret {secret:?}.\n\n| group | authorised | blocks | ./join printed |\n|---|---|---|---|").unwrap();
+        std::fs::create_dir_all(&folder).unwrap();
+        for person in 1..=6 {
+            let card = dealt(&d, person);
+            std::fs::write(folder.join(format!("card{person}")), &card).unwrap();
+            cards += 1;
+            bytes += card.len();
+        }
+        writeln!(tables, "\n## {name}\n\nSecret {secret:?}.\n\n| group | authorised | blocks | ./join printed |\n|---|---|---|---|").unwrap();
         for group in 0..64u16 {
             let members: Vec<usize> = (1..=6).filter(|person| group >> (person - 1) & 1 == 1).collect();
             let pile: Vec<u8> = members.iter().flat_map(|person| std::fs::read(folder.join(format!("card{person}"))).unwrap()).collect();
@@ -40,10 +47,15 @@ fn main() {
             }
             let names: Vec<String> = members.iter().map(usize::to_string).collect();
             let names = if names.is_empty() { "nobody".to_string() } else { names.join(" ") };
-            writeln!(page, "| {names} | {} | {} | `{}` |", if authorised { "yes" } else { "no" }, pile.len() / 512, said.trim_end()).unwrap();
+            writeln!(tables, "| {names} | {} | {} | `{}` |", if authorised { "yes" } else { "no" }, pile.len() / 512, said.trim_end()).unwrap();
         }
     }
-    std::fs::write(top.join("docs/SIX.md"), page).unwrap();
+    let head = format!(
+        "# Every group of six\n\nAll 64 groups of six custodians, their card files piped into `./join`, for three policies. The proved library dealt the\n\
+         cards (`titmeadow_deal`), and the independent Rust dealt the same {cards} cards, {bytes} bytes, again. Written by\n\
+         `cargo run --release --bin six` in bench/, which fails where a group got what it should not, or a byte of a card differs.\n"
+    );
+    std::fs::write(top.join("docs/SIX.md"), head + &tables).unwrap();
     println!("192 groups, {wrong} wrong");
     std::process::exit(if wrong == 0 { 0 } else { 1 });
 }
