@@ -81,19 +81,25 @@ pub fn with_word(block: &mut [u8], i: usize, value: u16, right: bool) {
     block.copy_from_slice(&bytes_of(&words));
 }
 
-/// One fault in a pile: a dirty slot, a changed word with or without a right check, another deal's block, a block whose values
-/// conflict, a torn end.
+/// One fault in a pile: a dirty slot, a changed word with or without a right check, two wrong words of one header, another deal's block,
+/// a block whose values conflict, a torn end. The edges of a range come often.
 pub fn damage(n: &mut Numbers, d: &Deal, pile: &mut Vec<Vec<u8>>) {
     if pile.last().is_none_or(|block| block.len() < BLOCK) {
         return;
     }
     let at = n.below(pile.len());
-    match n.below(8) {
-        0 => with_word(&mut pile[at], 1 + n.below(256), 32749 + n.below(32787) as u16, false),
+    match n.below(9) {
+        0 => {
+            let slot = if n.once_in(8) { 32749 } else { 32749 + n.below(32787) as u16 };
+            with_word(&mut pile[at], 1 + n.below(256), slot, false);
+        }
         1 => with_word(&mut pile[at], 1 + n.below(256), n.next() as u16, false),
         2 => with_word(&mut pile[at], 1 + n.below(7), n.below(80) as u16, true),
         3 => with_word(&mut pile[at], 8 + n.below(20), n.word(), true),
-        4 => with_word(&mut pile[at], 1 + n.below(255), n.word(), true),
+        4 => {
+            let word = if n.once_in(8) { 255 } else { 1 + n.below(255) };
+            with_word(&mut pile[at], word, n.word(), true);
+        }
         5 => {
             let word = [2, 4, 5, 6][n.below(4)];
             let value = words_of(&pile[at])[word - 1];
@@ -104,6 +110,12 @@ pub fn damage(n: &mut Numbers, d: &Deal, pile: &mut Vec<Vec<u8>>) {
             with_word(&mut block, 8 + n.below(d.secret.len()), n.word(), true);
             let to = n.below(pile.len() + 1);
             pile.insert(to, block);
+        }
+        7 => {
+            for _ in 0..2 {
+                let value = if n.once_in(2) { 0 } else { n.below(80) as u16 };
+                with_word(&mut pile[at], 1 + n.below(7), value, true);
+            }
         }
         _ => {
             let keep = n.below(BLOCK + 1);
