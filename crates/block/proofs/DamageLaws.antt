@@ -16,7 +16,7 @@ use Rattle.answer.specs.Outcome.{done, refused}
 use Rattle.answer.specs.Checks.{firstFail}
 use Rattle.prime.proofs.Prime.{cancel-small}
 use Rattle.block.specs.Words.{wordAt, putAt, weighted, checkOf, Small}
-use Rattle.block.specs.Layout.{headerOf}
+use Rattle.block.specs.Layout.{frontWords}
 use Rattle.block.specs.Open.{header, opening, TrueBlock}
 use Rattle.block.proofs.WordLaws.{length-put, word-put-same, word-put-other}
 use Rattle.block.proofs.SumLaws.{check-same, one-differs}
@@ -36,12 +36,12 @@ same-or-not k i = go (eqb k i) refl
 -- ---- what opening answers of a block whose check is wrong, and of one with a word above 32748
 by-check : (b : List ℕ) → 512 ≤ length b → Small b 256 → checkOf b ≢ wordAt b 256 → opening b ≡ refused 16 1 0
 unfolding firstFail
-by-check b l s h = opening-block b l ∙ slots-check b 1 (firstFail (header b 1 ∷ []) (done (headerOf b))) (of-small b s) h
+by-check b l s h = opening-block b l ∙ slots-check b 1 (firstFail (header b 1 ∷ []) (done (frontWords b))) (of-small b s) h
 
 by-unread : (b : List ℕ) (i : ℕ) → 512 ≤ length b → 1 ≤ i → i ≤ 256 → 32748 < wordAt b i → opening b ≡ refused 15 1 0
 unfolding firstFail
 by-unread b i l from to h =
-    opening-block b l ∙ slots-unread b 1 (firstFail (header b 1 ∷ []) (done (headerOf b))) (λ z. omega (arith, small-of b z .small i from to))
+    opening-block b l ∙ slots-unread b 1 (firstFail (header b 1 ∷ []) (done (frontWords b))) (λ z. omega (arith, small-of b z .small i from to))
 
 -- ---- word i of the true block b is changed, which gives c
 module _ (b c : List ℕ) (i : ℕ) (from : 1 ≤ i) (to : i ≤ 256)

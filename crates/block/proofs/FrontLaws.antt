@@ -11,7 +11,7 @@ use native.Mathlib.Nat.{le-refl}
 use Rattle.answer.specs.Outcome.{Outcome, done, refused}
 use Rattle.answer.specs.Checks.{firstFail}
 use Rattle.block.specs.Words.{wordAt}
-use Rattle.block.specs.Layout.{headerOf, widthOf}
+use Rattle.block.specs.Layout.{frontWords, widthOf}
 use Rattle.block.specs.Open.{blockLines, opening, byOutcome, valueBytes}
 use Rattle.block.proofs.WordLaws.{word-front}
 use Rattle.block.proofs.RangeLaws.{true-ranges}
@@ -25,7 +25,7 @@ module _ (xs ys : List ℕ) (long : 512 ≤ length xs) where
   opening-front : opening (xs ++ ys) ≡ opening xs
   opening-front =
       opening-block (xs ++ ys) (simp length-append (omega arith))
-      ∙ ap (λ l. firstFail l (done (headerOf (xs ++ ys)))) (only-lines (xs ++ ys) xs word-same 1)
+      ∙ ap (λ l. firstFail l (done (frontWords (xs ++ ys)))) (only-lines (xs ++ ys) xs word-same 1)
       ∙ ap (λ (h : List ℕ). firstFail (blockLines xs 1) (done h)) (only-header (xs ++ ys) xs word-same)
       ∙ sym (opening-block xs long)
 

@@ -15,7 +15,7 @@ use Rattle.answer.specs.Laws.{Passed}
 use Rattle.lists.proofs.FirstLaws.{first-same}
 use Rattle.block.specs.declared.Label.{Label}
 use Rattle.block.specs.Words.{wordAt, checkOf}
-use Rattle.block.specs.Layout.{headerOf, widthOf, heldAt, rangeAt, labelOf, valuesOf, rightAt, firstWrong}
+use Rattle.block.specs.Layout.{frontWords, widthOf, heldAt, rangeAt, labelOf, valuesOf, rightAt, firstWrong}
 use Rattle.block.specs.Open.{above, firstAbove, blockLines, TrueBlock}
 use Rattle.block.proofs.SumLaws.{check-same}
 use Rattle.block.proofs.LayoutLaws.{values-at, values-count}
@@ -77,7 +77,7 @@ module _ (b c : List ℕ) (same : (i : ℕ) → 1 ≤ i → i ≤ 256 → wordAt
       ∷ line Header (found (wrong-same t)) a (wrong-same t)
       ∷ []
 
-  pub only-header : headerOf b ≡ headerOf c
+  pub only-header : frontWords b ≡ frontWords c
   only-header = λ t.
       same 1 (omega arith) (omega arith) t
       ∷ same 2 (omega arith) (omega arith) t

@@ -21,7 +21,7 @@ use Rattle.lists.proofs.FirstLaws.{first-all, none-in, below-end, found-some, f
 use Rattle.block.specs.declared.Words.{Words}
 use Rattle.block.specs.declared.Opened.the-variants.{Head, Refused}
 use Rattle.block.specs.Words.{wordAt, checkOf, Small}
-use Rattle.block.specs.Layout.{headerOf, rightAt, firstWrong}
+use Rattle.block.specs.Layout.{frontWords, rightAt, firstWrong}
 use Rattle.block.specs.Open.{above, firstAbove, torn, unread, check, header, slotLines, blockLines, opening, wordsOf, opened, TrueBlock}
 use Rattle.block.specs.Laws.{Refusable, by-torn, by-unread, by-check, by-header}
 use Rattle.block.proofs.LayoutLaws.{layout-of, of-layout}
@@ -72,21 +72,21 @@ passes-true b a l p =
 -- ---- opening
 pub opening-torn : (pile : List ℕ) → length pile < 512 → opening pile ≡ refused 13 0 0
 unfolding opening
-opening-torn pile l = given (torn pile) (blockLines pile 1) (done (headerOf pile)) (lt-ltb (length pile) 512 l)
+opening-torn pile l = given (torn pile) (blockLines pile 1) (done (frontWords pile)) (lt-ltb (length pile) 512 l)
 
-pub opening-block : (pile : List ℕ) → 512 ≤ length pile → opening pile ≡ firstFail (blockLines pile 1) (done (headerOf pile))
+pub opening-block : (pile : List ℕ) → 512 ≤ length pile → opening pile ≡ firstFail (blockLines pile 1) (done (frontWords pile))
 unfolding opening
-opening-block pile l = not-given (torn pile) (blockLines pile 1) (done (headerOf pile)) (le-ltb (length pile) 512 l)
+opening-block pile l = not-given (torn pile) (blockLines pile 1) (done (frontWords pile)) (le-ltb (length pile) 512 l)
 
-pub true-opens : (pile : List ℕ) → TrueBlock pile → opening pile ≡ done (headerOf pile)
-true-opens pile t = opening-block pile (t .long) ∙ passed-done (blockLines pile 1) (done (headerOf pile)) (true-passes pile 1 t)
+pub true-opens : (pile : List ℕ) → TrueBlock pile → opening pile ≡ done (frontWords pile)
+true-opens pile t = opening-block pile (t .long) ∙ passed-done (blockLines pile 1) (done (frontWords pile)) (true-passes pile 1 t)
 
-pub opens-true : (pile ws : List ℕ) → opening pile ≡ done ws → TrueBlock pile × (ws ≡ headerOf pile)
+pub opens-true : (pile ws : List ℕ) → opening pile ≡ done ws → TrueBlock pile × (ws ≡ frontWords pile)
 unfolding opening
 opens-true pile ws e =
-    let r = done-passed (torn pile ∷ blockLines pile 1) (done (headerOf pile)) ws e in
+    let r = done-passed (torn pile ∷ blockLines pile 1) (done (frontWords pile)) ws e in
     let p = passed (r .0) in
-    let q : done (headerOf pile) ≡ done ws = r .1 in
+    let q : done (frontWords pile) ≡ done ws = r .1 in
     (passes-true pile 1 (ltb-false (length pile) 512 (p .0)) (p .1), cc)
 
 -- ---- which refusals opening gives
@@ -104,7 +104,7 @@ wrong-place b g = by-header (some-found (firstWrong b) g) (below-end (λ i. not 
 pub which-refusals : (pile : List ℕ) (m a b : ℕ) → opening pile ≡ refused m a b → Refusable m a b
 unfolding opening
 which-refusals pile m a b e =
-    let r = refused-by (torn pile ∷ blockLines pile 1) (headerOf pile) m a b e in
+    let r = refused-by (torn pile ∷ blockLines pile 1) (frontWords pile) m a b e in
     ⊎-elim (λ (h : r .line ≡ torn pile). told r (torn pile) h by-torn)
     (λ (h : List·Memᴰ (r .line) (blockLines pile 1)).
     ⊎-elim (λ (h : r .line ≡ unread pile 1). told r (unread pile 1) h by-unread)
@@ -124,10 +124,10 @@ module _ (pile : List ℕ) (long : 512 ≤ length pile) {x : Answer} (says : out
   pub open-refused : {r : Refusal} → x ≡ Answer-Refused r → opened (Refused r) ≡ opening pile
   open-refused {r} q =
       sym (opening-block pile long
-      ∙ same-refusal (blockLines pile 1) 0 (done (headerOf pile)) (number (r .kind)) (r .a) (r .b) (sym says ∙ ap outcome q))
+      ∙ same-refusal (blockLines pile 1) 0 (done (frontWords pile)) (number (r .kind)) (r .a) (r .b) (sym says ∙ ap outcome q))
 
-  pub open-head : {u : ℕ} (h : Words) → x ≡ Done u → wordsOf h ≡ headerOf pile → opened (Head h) ≡ opening pile
+  pub open-head : {u : ℕ} (h : Words) → x ≡ Done u → wordsOf h ≡ frontWords pile → opened (Head h) ≡ opening pile
   open-head {u} h q e =
       ap done e
       ∙ sym (opening-block pile long
-      ∙ passed-done (blockLines pile 1) (done (headerOf pile)) (done-passed (blockLines pile 1) (done 0) u (sym says ∙ ap outcome q) .0))
+      ∙ passed-done (blockLines pile 1) (done (frontWords pile)) (done-passed (blockLines pile 1) (done 0) u (sym says ∙ ap outcome q) .0))

@@ -14,7 +14,7 @@ use Rattle.lists.proofs.RunLaws.{run-is, run-same}
 use Rattle.answer.specs.Outcome.{done}
 use Rattle.block.specs.declared.Label.{Label}
 use Rattle.block.specs.Words.{wordAt, bytesOf, weighted, checkOf}
-use Rattle.block.specs.Layout.{headerOf, widthOf, heldAt, Ranged, labelOf, valuesOf}
+use Rattle.block.specs.Layout.{frontWords, widthOf, heldAt, Ranged, labelOf, valuesOf}
 use Rattle.block.specs.Open.{opening, valueBytes, TrueBlock}
 use Rattle.block.specs.Written.{body, blockBytes, Buildable}
 use Rattle.block.proofs.WordLaws.{length-bytes, bytes-append, bytes-word, bytes-low, bytes-of-words}
@@ -106,7 +106,7 @@ module _ (l : Label) (vs rest : List ℕ) where
         piece = word-is 7 (omega arith) (omega arith) t;
       }
 
-  header-is : headerOf pile ≡ run (heldAt l vs) 1 7
+  header-is : frontWords pile ≡ run (heldAt l vs) 1 7
   unfolding run
   header-is = λ t.
       word-is 1 (omega arith) (omega arith) t

@@ -14,7 +14,7 @@ use Rattle.block.specs.declared.Label.{Label}
 use Rattle.block.specs.declared.Opened.{Opened}
 use Rattle.block.specs.Words.{wordAt, putAt, bytesOf}
 use Rattle.block.specs.Deals.{sameDeal}
-use Rattle.block.specs.Layout.{headerOf, widthOf, heldAt, Ranged, labelOf, valuesOf}
+use Rattle.block.specs.Layout.{frontWords, widthOf, heldAt, Ranged, labelOf, valuesOf}
 use Rattle.block.specs.Open.{blockLines, opening, valueBytes, valueStart, opened, TrueBlock}
 use Rattle.block.specs.Written.{blockBytes, Buildable}
 
@@ -58,7 +58,7 @@ TrueWritten = (b : List ℕ) → TrueBlock b
 -- What is said of a block depends on its 256 words alone: the lines 15, 16 and 17, words 1 to 7, and whether it is true.
 abbrev pub OnlyWords : Type 0
 OnlyWords = (b c : List ℕ) → ((i : ℕ) → 1 ≤ i → i ≤ 256 → wordAt b i ≡ wordAt c i)
-    → ((a : ℕ) → blockLines b a ≡ blockLines c a) × (headerOf b ≡ headerOf c) × (TrueBlock b → 512 ≤ length c → TrueBlock c)
+    → ((a : ℕ) → blockLines b a ≡ blockLines c a) × (frontWords b ≡ frontWords c) × (TrueBlock b → 512 ≤ length c → TrueBlock c)
 
 -- "A true block is one that passes 15, 16 and 17": as block a of a pile, whatever a is; and whatever passes them is one.
 abbrev pub TrueMeans : Type 0
@@ -70,10 +70,10 @@ TrueSmall = (b : List ℕ) → TrueBlock b → (i : ℕ) → 1 ≤ i → i ≤ 2
 
 -- A true block opens to its words 1 to 7, and nothing else opens.
 abbrev pub TrueOpens : Type 0
-TrueOpens = (pile : List ℕ) → TrueBlock pile → opening pile ≡ done (headerOf pile)
+TrueOpens = (pile : List ℕ) → TrueBlock pile → opening pile ≡ done (frontWords pile)
 
 abbrev pub OpensTrue : Type 0
-OpensTrue = (pile ws : List ℕ) → opening pile ≡ done ws → TrueBlock pile × (ws ≡ headerOf pile)
+OpensTrue = (pile ws : List ℕ) → opening pile ≡ done ws → TrueBlock pile × (ws ≡ frontWords pile)
 
 -- "changing any one word .. makes a block that is refused": v is any other value. One above 32748 is UNREAD, any other CHECK.
 abbrev pub Changed : Type 0

@@ -13,8 +13,8 @@ use Rattle.block.specs.Words.{wordAt}
 use Rattle.block.specs.Deals.{dealWords}
 
 -- words 1 to 7 of b, which opening answers
-abbrev pub headerOf : List ℕ → List ℕ
-headerOf b = wordAt b 1 ∷ wordAt b 2 ∷ wordAt b 3 ∷ wordAt b 4 ∷ wordAt b 5 ∷ wordAt b 6 ∷ wordAt b 7 ∷ []
+abbrev pub frontWords : List ℕ → List ℕ
+frontWords b = wordAt b 1 ∷ wordAt b 2 ∷ wordAt b 3 ∷ wordAt b 4 ∷ wordAt b 5 ∷ wordAt b 6 ∷ wordAt b 7 ∷ []
 
 -- the number of the piece
 abbrev pub pieceOf : List ℕ → ℕ

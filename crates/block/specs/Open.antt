@@ -12,7 +12,7 @@ use Rattle.answer.specs.Checks.{Line, line, firstFail}
 use Rattle.lists.specs.Places.{firstIn, found}
 use Rattle.prime.specs.Prime.{tooLarge}
 use Rattle.block.specs.Words.{wordAt, checkOf, Small}
-use Rattle.block.specs.Layout.{headerOf, widthOf, firstWrong, Layout}
+use Rattle.block.specs.Layout.{frontWords, widthOf, firstWrong, Layout}
 use Rattle.block.specs.declared.Words.{Words}
 use Rattle.block.specs.declared.Opened.{Opened}
 use Rattle.block.specs.declared.Opened.the-variants.{Head, Refused}
@@ -55,7 +55,7 @@ blockLines b a = slotLines b a ++ header b a ∷ []
 
 -- opening the first block of a pile
 unfoldable pub opening : List ℕ → Outcome (List ℕ)
-opening pile = firstFail (torn pile ∷ blockLines pile 1) (done (headerOf pile))
+opening pile = firstFail (torn pile ∷ blockLines pile 1) (done (frontWords pile))
 
 -- one thing where the outcome is a result, another where it is a refusal
 abbrev pub byOutcome : {A B : Type 0} → Outcome A → B → B → B

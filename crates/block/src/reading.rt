@@ -12,17 +12,17 @@ ghost use lib.ListN.{length};
 ghost use Rattle.answer.specs.Outcome.{outcome, done};
 ghost use Rattle.answer.specs.Checks.{firstFail};
 ghost use Rattle.lists.specs.Places.{firstIn};
-ghost use Rattle.block.specs.Layout.{headerOf, within, rightAt, filled, firstWrong};
+ghost use Rattle.block.specs.Layout.{frontWords, within, rightAt, filled, firstWrong};
 ghost use Rattle.block.specs.Open.{firstAbove, cleanCheck, slotLines, blockLines, opening, valueBytes, valueStart, wordsOf, opened};
 
 // What one pass over a block finds: the first word above 32748, or 0, and the check of words 1 to 255 where there is none.
-struct Seen {
+struct Scanned {
     dirty: usize,
     sum: u16,
 }
 
 // One pass over a block: each word is tested before it enters the sum.
-fn scan(b: &[u8]) -> Seen
+fn scan(b: &[u8]) -> Scanned
     requires { ⌜ 512 ≤ length (now b) ⌝ }
     ensures { λ r. ⌜ (r .dirty ≡ firstAbove (now (b .entry))) × (r .sum ≡ cleanCheck (now (b .entry))) ⌝ }
 {
@@ -31,16 +31,16 @@ fn scan(b: &[u8]) -> Seen
     while i < 256 {
         let v = word(b, i);
         if 32748 < v {
-            return Seen { dirty: i, sum: 0 };
+            return Scanned { dirty: i, sum: 0 };
         }
         sum = weigh(sum, i, v);
         i += 1;
     }
     let last = word(b, 256);
     if 32748 < last {
-        return Seen { dirty: 256, sum: 0 };
+        return Scanned { dirty: 256, sum: 0 };
     }
-    Seen {
+    Scanned {
         dirty: 0,
         sum: (sum % 32749) as u16,
     }
@@ -145,9 +145,9 @@ pub fn check_block(rest: &[u8], a: usize) -> Answer
 }
 
 // Words 1 to 7 of b.
-fn header(b: &[u8]) -> Words
+fn front_words(b: &[u8]) -> Words
     requires { ⌜ 14 ≤ length (now b) ⌝ }
-    ensures { λ r. ⌜ wordsOf r ≡ headerOf (now (b .entry)) ⌝ }
+    ensures { λ r. ⌜ wordsOf r ≡ frontWords (now (b .entry)) ⌝ }
 {
     let mark = word(b, 1);
     let deal = word(b, 2);
@@ -181,7 +181,7 @@ pub fn open(pile: &[u8]) -> Opened
     match check_block(pile, 1) {
         Answer::Refused(r) => Opened::Refused(r),
         Answer::Done(_) => {
-            let h = header(pile);
+            let h = front_words(pile);
             Opened::Head(h)
         }
     }

@@ -21,7 +21,7 @@ use Rattle.block.specs.Words.{wordAt, bytesOf, weighted, checkOf}
 use Rattle.block.specs.Layout.{heldAt, rangeAt, valuesOf, rightAt, firstWrong}
 use Rattle.block.specs.Open.{firstAbove}
 use Rattle.block.specs.Written.{body, blockBytes}
-use Rattle.dealing.specs.Deal.{blockFor, pieceCount, held, card}
+use Rattle.dealing.specs.Deal.{blockFor, dealPieces, heldBy, card}
 use Rattle.lists.specs.Flat.{flat}
 use Rattle.dealing.specs.Dealt.{badNumber, badHolder, badWidth, badSecret, badCount, badRandom, inputLines, blockCount, dealLines, dealing, Made}
 use Rattle.dealing.proofs.Laws as law
@@ -36,17 +36,17 @@ use Rattle.cases.specs.Table.{deal11, words11, pile12}
 
 -- holder 4 has one block
 one-block : blockCount deal11 4 ≡ 1
-unfolding blockCount held planning.held holds groupsBy those maximalBy tight authorised some each inside member set
+unfolding blockCount heldBy planning.held holds groupsBy those maximalBy tight authorised some each inside member set
 one-block = refl
 
 -- the deal can be made
 pub made : Made deal11
-unfolding dealing dealLines firstFail planLines listLines people long strangers nobody opens clash clashPlace wide stranger inputLines badNumber badHolder badWidth badSecret badCount badRandom noRoom blockCount held pieceCount firstPlace firstFrom planning.held holds groupsBy those maximalBy tight authorised some each inside member set
+unfolding dealing dealLines firstFail planLines listLines people long strangers nobody opens clash clashPlace wide stranger inputLines badNumber badHolder badWidth badSecret badCount badRandom noRoom blockCount heldBy dealPieces firstPlace firstFrom planning.held holds groupsBy those maximalBy tight authorised some each inside member set
 made = record { holder = 4; room = 512; blocks = 1; answer = refl }
 
 -- every byte of that block
 pub the-block : card deal11 4 ≡ bytesOf words11
-unfolding card flat blockFor held pieceCount valuesIn value planning.held holds groupsBy those maximalBy tight authorised some each inside member set blockBytes body run heldAt bytesOf checkOf weighted wordAt
+unfolding card flat blockFor heldBy dealPieces valuesIn value planning.held holds groupsBy those maximalBy tight authorised some each inside member set blockBytes body run heldAt bytesOf checkOf weighted wordAt
 the-block = refl
 
 -- it is dealt into every output that has room for it
@@ -57,5 +57,5 @@ dealt out room =
 
 -- no output is too short for SHORT: ROOM comes after it
 pub short-two : (room : ℕ) → joining pile12 room ≡ refused 20 2 3
-unfolding joining joinLines pileLines linesFrom everyBlock mixedAt contradicts contradictedBy conflictAt blocks restFrom ownBlock sameDeal placeOf differIn present firstFail firstFrom firstAbove rangeAt valuesOf rightAt firstWrong card flat blockFor held pieceCount valuesIn value planning.held holds groupsBy those maximalBy tight authorised some each inside member set blockBytes body run heldAt bytesOf checkOf weighted wordAt
+unfolding joining joinLines pileLines linesFrom everyBlock mixedAt contradicts contradictedBy conflictAt blocks restFrom ownBlock sameDeal placeOf differIn present firstFail firstFrom firstAbove rangeAt valuesOf rightAt firstWrong card flat blockFor heldBy dealPieces valuesIn value planning.held holds groupsBy those maximalBy tight authorised some each inside member set blockBytes body run heldAt bytesOf checkOf weighted wordAt
 short-two room = refl

@@ -16,22 +16,22 @@ use Rattle.planning.specs.Groups as planning
 use Rattle.planning.specs.Groups.{marked, holds}
 use Rattle.planning.specs.Planned.{planLines, planned, plannedRows}
 use Rattle.planning.proofs.Laws.{accepted-listed, some-piece, rows-mean}
-use Rattle.dealing.specs.Deal.{Deal, cardOver, askedOf, pieceCount, held, card}
+use Rattle.dealing.specs.Deal.{Deal, cardOver, askedOf, dealPieces, heldBy, card}
 use Rattle.dealing.specs.Dealt.{inputLines, cardLines, blockCount, dealLines, dealing, dealtInto}
 use Rattle.dealing.specs.Rows.{heldIn, roomSays}
 use Rattle.dealing.proofs.InputLaws.{lines-ready}
 
 -- refusals 8 to 11 of a deal
 abbrev pub linesFor : Deal → ℕ → List Line
-linesFor d holder = inputLines (askedOf d holder) (pieceCount d - 1) (d .secret) (d .random)
+linesFor d holder = inputLines (askedOf d holder) (dealPieces d - 1) (d .secret) (d .random)
 
 -- its card by pieces that were counted some other way
 abbrev cardFor : Deal → ℕ → List ℕ → List ℕ
-cardFor d holder pieces = cardOver (askedOf d holder) (pieceCount d) (d .secret) (d .random) pieces
+cardFor d holder pieces = cardOver (askedOf d holder) (dealPieces d) (d .secret) (d .random) pieces
 
 -- 8 to 12, or how many blocks there are
 abbrev pub restSays : Deal → ℕ → ℕ → ℕ → Outcome ℕ
-restSays d holder blocks room = firstFail (cardLines (askedOf d holder) (pieceCount d - 1) (d .secret) (d .random) blocks room) (done blocks)
+restSays d holder blocks room = firstFail (cardLines (askedOf d holder) (dealPieces d - 1) (d .secret) (d .random) blocks room) (done blocks)
 
 -- the lines behind planning's speak where those have passed
 dealing-is : (d : Deal) (holder room : ℕ) → dealing d holder room ≡ firstFail (planLines (d .policy)) (restSays d holder (blockCount d holder) room)
@@ -52,29 +52,29 @@ module _ (d : Deal) (m a b : ℕ) (e : planned (d .policy) ≡ refused m a b) (h
 pub past-plan : (d : Deal) → Passed (planLines (d .policy)) → (holder room : ℕ) → dealing d holder room ≡ restSays d holder (blockCount d holder) room
 past-plan d p holder room = dealing-is d holder room ∙ passed-done (planLines (d .policy)) _ p
 
-module _ (d : Deal) (e : planned (d .policy) ≡ done (pieceCount d)) where
+module _ (d : Deal) (e : planned (d .policy) ≡ done (dealPieces d)) where
   plan-passes : Passed (planLines (d .policy))
   unfolding planned
-  plan-passes = done-passed (planLines (d .policy)) _ (pieceCount d) e .0
+  plan-passes = done-passed (planLines (d .policy)) _ (dealPieces d) e .0
 
-  pub plan-few : (d .policy .people ≤ 8) × (1 ≤ pieceCount d) × (pieceCount d ≤ 70)
+  pub plan-few : (d .policy .people ≤ 8) × (1 ≤ dealPieces d) × (dealPieces d ≤ 70)
   plan-few =
-      let k = some-piece (d .policy) (pieceCount d) e in
-      (accepted-listed (d .policy) (pieceCount d) e .few, k .1, k .2)
+      let k = some-piece (d .policy) (dealPieces d) e in
+      (accepted-listed (d .policy) (dealPieces d) e .few, k .1, k .2)
 
   module _ (holder : ℕ) where
     abbrev pieces : List ℕ
-    pieces = heldIn (plannedRows (d .policy)) holder (pieceCount d)
+    pieces = heldIn (plannedRows (d .policy)) holder (dealPieces d)
 
     -- the rows mark who lacks a piece; a holder who passes is one of the people
-    held-rows : Passed (linesFor d holder) → pieces ≡ held d holder
-    unfolding heldIn held planning.held holds pieceCount
+    held-rows : Passed (linesFor d holder) → pieces ≡ heldBy d holder
+    unfolding heldIn heldBy planning.held holds dealPieces
     held-rows p =
         let f = plan-few in
         let r = lines-ready (f .0) (f .1) (f .2) p in
-        those-same (λ j. not (marked (plannedRows (d .policy)) j holder)) (holds (d .policy .people) (d .policy .required) holder) 1 (pieceCount d)
+        those-same (λ j. not (marked (plannedRows (d .policy)) j holder)) (holds (d .policy .people) (d .policy .required) holder) 1 (dealPieces d)
         (λ j low high.
-        ap not (rows-mean (d .policy) (pieceCount d) e holder j (r .holder-in .0) (omega (arith, r .holder-in .1, f .0)) low .0 (omega arith)))
+        ap not (rows-mean (d .policy) (dealPieces d) e holder j (r .holder-in .0) (omega (arith, r .holder-in .1, f .0)) low .0 (omega arith)))
 
     says : (room : ℕ) → restSays d holder (length pieces) room ≡ dealing d holder room
     unfolding blockCount
@@ -96,8 +96,8 @@ module _ (d : Deal) (e : planned (d .policy) ≡ done (pieceCount d)) where
 
 -- ---- the same where the code has its own k and rows
 module _ (d : Deal) (k : ℕ) (e : planned (d .policy) ≡ done k) where
-  count : k ≡ pieceCount d
-  unfolding pieceCount
+  count : k ≡ dealPieces d
+  unfolding dealPieces
   count = some-piece (d .policy) k e .0
 
   pub plan-gives : (d .policy .people ≤ 8) × (1 ≤ k) × (k ≤ 70)
@@ -109,6 +109,6 @@ module _ (d : Deal) (k : ℕ) (e : planned (d .policy) ≡ done k) where
       → now ≡ left o (cardOver (askedOf d holder) k (d .secret) (d .random) pieces) out
       → (o ≡ dealing d holder (length out)) × (now ≡ dealtInto d holder out)
   deals rows same holder o out now s l =
-      let e′ : planned (d .policy) ≡ done (pieceCount d) = rw (← count) e in
+      let e′ : planned (d .policy) ≡ done (dealPieces d) = rw (← count) e in
       let s′ = rw (count, same) at s in
       (s′ ∙ says d e′ holder (length out), (rw (count, same) at l) ∙ leaves d e′ holder o out s′)

@@ -12,23 +12,23 @@ use Rattle.planning.specs.Groups.{holds}
 use Rattle.planning.proofs.Laws.{held-are}
 use Rattle.block.specs.Written.{blockBytes}
 use Rattle.dealing.specs.declared.Asked.{Asked}
-use Rattle.dealing.specs.Deal.{Deal, labelFor, blockFor, askedOf, pieceCount, held, values, blockOf, card}
+use Rattle.dealing.specs.Deal.{Deal, labelFor, blockFor, askedOf, dealPieces, heldBy, pieceValues, blockOf, card}
 use Rattle.lists.specs.Flat.{flat}
 
 -- ---- which pieces a person holds
 module _ (d : Deal) (holder j : ℕ) where
-  pub held-in : j ∈ held d holder → (1 ≤ j) × (j ≤ pieceCount d) × (holds (d .policy .people) (d .policy .required) holder j ≡ true)
-  unfolding held pieceCount
+  pub held-in : j ∈ heldBy d holder → (1 ≤ j) × (j ≤ dealPieces d) × (holds (d .policy .people) (d .policy .required) holder j ≡ true)
+  unfolding heldBy dealPieces
   held-in m = held-are (d .policy .people) (d .policy .required) holder j .0 m
 
-  pub in-held : 1 ≤ j → j ≤ pieceCount d → holds (d .policy .people) (d .policy .required) holder j ≡ true → j ∈ held d holder
-  unfolding held pieceCount
+  pub in-held : 1 ≤ j → j ≤ dealPieces d → holds (d .policy .people) (d .policy .required) holder j ≡ true → j ∈ heldBy d holder
+  unfolding heldBy dealPieces
   in-held l h t = held-are (d .policy .people) (d .policy .required) holder j .1 (l, h, t)
 
 -- ---- there is a value for each word of the secret
-pub values-length : (d : Deal) (j : ℕ) → length (values d j) ≡ length (d .secret)
-unfolding values
-values-length d j = field.values-length (pieceCount d - 1) (d .secret) (d .random) j
+pub values-length : (d : Deal) (j : ℕ) → length (pieceValues d j) ≡ length (d .secret)
+unfolding pieceValues
+values-length d j = field.values-length (dealPieces d - 1) (d .secret) (d .random) j
 
 -- ---- what a card depends on
 map-same : (f g : ℕ → List ℕ) (l : List ℕ) → ((j : ℕ) → j ∈ l → f j ≡ g j) → map f l ≡ map g l
@@ -40,24 +40,24 @@ module _ (d d′ : Deal) (holder : ℕ) (asked : askedOf d holder ≡ askedOf d�
   abbrev people : d .policy .people ≡ d′ .policy .people
   people = ap (λ (a : Asked). a .people) asked
 
-  count-same : pieceCount d ≡ pieceCount d′
-  unfolding pieceCount
+  count-same : dealPieces d ≡ dealPieces d′
+  unfolding dealPieces
   count-same = ap₂ planning.pieceCount people required
 
-  held-same : held d holder ≡ held d′ holder
-  unfolding held
+  held-same : heldBy d holder ≡ heldBy d′ holder
+  unfolding heldBy
   held-same = ap₂ (λ (n : ℕ) (r : List ℕ). planning.held n r holder) people required
 
   -- equal values are equally many: so are the words of the secrets
-  block-same : (j : ℕ) → values d j ≡ values d′ j → blockOf d holder j ≡ blockOf d′ holder j
-  unfolding blockOf blockFor values
+  block-same : (j : ℕ) → pieceValues d j ≡ pieceValues d′ j → blockOf d holder j ≡ blockOf d′ holder j
+  unfolding blockOf blockFor pieceValues
   block-same j e =
       let width : length (d .secret) ≡ length (d′ .secret) = sym (values-length d j) ∙ ap length e ∙ values-length d′ j in
       λ t. blockBytes (labelFor (asked t) (count-same t) (width t) j) (e t)
 
-  pub card-depends : ((j : ℕ) → j ∈ held d holder → values d j ≡ values d′ j) → card d holder ≡ card d′ holder
+  pub card-depends : ((j : ℕ) → j ∈ heldBy d holder → pieceValues d j ≡ pieceValues d′ j) → card d holder ≡ card d′ holder
   unfolding card blockOf
   card-depends e =
       ap flat
-      (map-same (blockOf d holder) (blockOf d′ holder) (held d holder) (λ j m. block-same j (e j m))
+      (map-same (blockOf d holder) (blockOf d′ holder) (heldBy d holder) (λ j m. block-same j (e j m))
       ∙ ap (map (blockOf d′ holder)) held-same)

@@ -23,7 +23,7 @@ use Rattle.block.specs.Layout.{heldAt}
 use Rattle.block.specs.Open.{opening, valueBytes, TrueBlock}
 use Rattle.block.specs.Written.{Buildable}
 use Rattle.block.proofs.Laws.{opens-written}
-use Rattle.dealing.specs.Deal.{Deal, again, blockFor, askedOf, pieceCount, held, values, label, blockOf, card}
+use Rattle.dealing.specs.Deal.{Deal, again, blockFor, askedOf, dealPieces, heldBy, pieceValues, label, blockOf, card}
 use Rattle.dealing.specs.Dealt.{blockCount, dealLines, dealing, dealtInto, Made}
 use Rattle.dealing.specs.Rows.{Ready, roomSays}
 use Rattle.dealing.proofs.HeldLaws.{held-in}
@@ -36,12 +36,12 @@ use Rattle.dealing.proofs.DealLaws.{linesFor, past-plan, plan-few}
 pub record InRange (d : Deal) : Type 0 where
   pub plan-passes : Passed (planLines (d .policy))
   pub holder : ℕ
-  pub ready : Ready (askedOf d holder) (pieceCount d) (d .secret) (d .random)
+  pub ready : Ready (askedOf d holder) (dealPieces d) (d .secret) (d .random)
 
 -- the same for another holder, another secret in range, other randomness in range
 ready-with : (d : Deal) → InRange d → (holder : ℕ) → (1 ≤ holder) × (holder ≤ d .policy .people) → (secret random : List ℕ)
-    → length secret ≡ length (d .secret) → Below secret → Random (length secret) (pieceCount d) random
-    → Ready (askedOf d holder) (pieceCount d) secret random
+    → length secret ≡ length (d .secret) → Below secret → Random (length secret) (dealPieces d) random
+    → Ready (askedOf d holder) (dealPieces d) secret random
 ready-with d f holder h secret random e b r =
     record {
       few = f .ready .few;
@@ -55,15 +55,15 @@ ready-with d f holder h secret random e b r =
     }
 
 pub again-in-range : (d : Deal) → InRange d → (secret random : List ℕ) → length secret ≡ length (d .secret) → Below secret
-    → Random (length secret) (pieceCount d) random → InRange (again d secret random)
-unfolding pieceCount
+    → Random (length secret) (dealPieces d) random → InRange (again d secret random)
+unfolding dealPieces
 again-in-range d f secret random e b r =
     record { plan-passes = f .plan-passes; holder = f .holder; ready = ready-with d f (f .holder) (f .ready .holder-in) secret random e b r }
 
 -- ---- a card was dealt, so everything passed
-plan-accepts : (d : Deal) → Passed (planLines (d .policy)) → planned (d .policy) ≡ done (pieceCount d)
-unfolding planned pieceCount
-plan-accepts d p = passed-done (planLines (d .policy)) (done (pieceCount d)) p
+plan-accepts : (d : Deal) → Passed (planLines (d .policy)) → planned (d .policy) ≡ done (dealPieces d)
+unfolding planned dealPieces
+plan-accepts d p = passed-done (planLines (d .policy)) (done (dealPieces d)) p
 
 made-lines : (d : Deal) (m : Made d)
     → Passed (planLines (d .policy))
@@ -95,10 +95,10 @@ module _ (d : Deal) (holder : ℕ) where
 
   pub card-length : length (card d holder) ≡ 512 * blockCount d holder
   unfolding card blockOf blockCount
-  card-length = flat-map (blockOf d holder) block-length (held d holder)
+  card-length = flat-map (blockOf d holder) block-length (heldBy d holder)
 
 module _ (d : Deal) (f : InRange d) (holder : ℕ) (least : 1 ≤ holder) (most : holder ≤ d .policy .people) where
-  ready : Ready (askedOf d holder) (pieceCount d) (d .secret) (d .random)
+  ready : Ready (askedOf d holder) (dealPieces d) (d .secret) (d .random)
   ready = ready-with d f holder (least, most) (d .secret) (d .random) refl (f .ready .secret-in) (f .ready .random-in)
 
   -- ---- only the room is left to check
@@ -112,16 +112,16 @@ module _ (d : Deal) (f : InRange d) (holder : ℕ) (least : 1 ≤ holder) (most 
   deals-all room h = only-room room ∙ lent.room-given (512 * blockCount d holder) (blockCount d holder) room (done (blockCount d holder)) h
 
   -- ---- each of them is true, and opens
-  pub buildable : (j : ℕ) → j ∈ held d holder → Buildable (label d holder j) (values d j)
-  unfolding label values
-  buildable j m = let h = held-in d holder j m in ready-builds ready j (values d j) (h .0) (h .1) refl
+  pub buildable : (j : ℕ) → j ∈ heldBy d holder → Buildable (label d holder j) (pieceValues d j)
+  unfolding label pieceValues
+  buildable j m = let h = held-in d holder j m in ready-builds ready j (pieceValues d j) (h .0) (h .1) refl
 
-  pub blocks-open : (j : ℕ) → j ∈ held d holder → (rest : List ℕ)
+  pub blocks-open : (j : ℕ) → j ∈ heldBy d holder → (rest : List ℕ)
       → TrueBlock (blockOf d holder j ++ rest)
-      × (opening (blockOf d holder j ++ rest) ≡ done (run (heldAt (label d holder j) (values d j)) 1 7))
-      × (valueBytes (blockOf d holder j ++ rest) ≡ bytesOf (values d j))
-  unfolding blockOf blockFor label values
-  blocks-open j m rest = opens-written (label d holder j) (values d j) rest (buildable j m)
+      × (opening (blockOf d holder j ++ rest) ≡ done (run (heldAt (label d holder j) (pieceValues d j)) 1 7))
+      × (valueBytes (blockOf d holder j ++ rest) ≡ bytesOf (pieceValues d j))
+  unfolding blockOf blockFor label pieceValues
+  blocks-open j m rest = opens-written (label d holder j) (pieceValues d j) rest (buildable j m)
 
 -- ---- what is left in the lent output
 module _ (d : Deal) (holder : ℕ) (out : List ℕ) (blocks : ℕ) (e : dealing d holder (length out) ≡ done blocks) where

@@ -50,29 +50,29 @@ abbrev pub askedOf : Deal → ℕ → Asked
 askedOf d holder = record { people = d .policy .people; number = d .number; holder = holder }
 
 -- k, the pieces of the deal
-unfoldable pub pieceCount : Deal → ℕ
-pieceCount d = planning.pieceCount (d .policy .people) (d .policy .required)
+unfoldable pub dealPieces : Deal → ℕ
+dealPieces d = planning.pieceCount (d .policy .people) (d .policy .required)
 
 -- the pieces that a holder has, in rising number
-unfoldable pub held : Deal → ℕ → List ℕ
-held d holder = planning.held (d .policy .people) (d .policy .required) holder
+unfoldable pub heldBy : Deal → ℕ → List ℕ
+heldBy d holder = planning.held (d .policy .people) (d .policy .required) holder
 
 -- "values of piece j", one for each word of the secret: "those of word 1 first, then word 2"
-unfoldable pub values : Deal → ℕ → List ℕ
-values d j = valuesIn (pieceCount d - 1) (d .secret) (d .random) j
+unfoldable pub pieceValues : Deal → ℕ → List ℕ
+pieceValues d j = valuesIn (dealPieces d - 1) (d .secret) (d .random) j
 
 -- the label of the block of piece j on the holder's card
 unfoldable pub label : Deal → ℕ → ℕ → Label
-label d holder j = labelFor (askedOf d holder) (pieceCount d) (length (d .secret)) j
+label d holder j = labelFor (askedOf d holder) (dealPieces d) (length (d .secret)) j
 
 -- that block
 unfoldable pub blockOf : Deal → ℕ → ℕ → List ℕ
-blockOf d holder j = blockFor (askedOf d holder) (pieceCount d) (d .secret) (d .random) j
+blockOf d holder j = blockFor (askedOf d holder) (dealPieces d) (d .secret) (d .random) j
 
 -- the blocks of the holder's card, one for each piece held
 unfoldable pub cardBlocks : Deal → ℕ → List (List ℕ)
-cardBlocks d holder = map (blockOf d holder) (held d holder)
+cardBlocks d holder = map (blockOf d holder) (heldBy d holder)
 
 -- the holder's card: "a person who holds none has a card of no bytes"
 unfoldable pub card : Deal → ℕ → List ℕ
-card d holder = cardOver (askedOf d holder) (pieceCount d) (d .secret) (d .random) (held d holder)
+card d holder = cardOver (askedOf d holder) (dealPieces d) (d .secret) (d .random) (heldBy d holder)

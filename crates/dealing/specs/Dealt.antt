@@ -14,7 +14,7 @@ use Rattle.lists.specs.Places.{firstPlace, found}
 use Rattle.answer.specs.Lent.{noRoom, left}
 use Rattle.planning.specs.Planned.{planLines}
 use Rattle.dealing.specs.declared.Asked.{Asked}
-use Rattle.dealing.specs.Deal.{Deal, askedOf, pieceCount, held, card}
+use Rattle.dealing.specs.Deal.{Deal, askedOf, dealPieces, heldBy, card}
 
 -- a number outside 1 to high
 abbrev pub outside : ℕ → ℕ → Bool
@@ -61,12 +61,12 @@ cardLines asked each secret random blocks room = inputLines asked each secret ra
 
 -- how many blocks the holder's card has
 unfoldable pub blockCount : Deal → ℕ → ℕ
-blockCount d holder = length (held d holder)
+blockCount d holder = length (heldBy d holder)
 
 -- 1 to 12, in their order: for one holder's card into a lent output of so many bytes
 unfoldable pub dealLines : Deal → ℕ → ℕ → List Line
 dealLines d holder room =
-    planLines (d .policy) ++ cardLines (askedOf d holder) (pieceCount d - 1) (d .secret) (d .random) (blockCount d holder) room
+    planLines (d .policy) ++ cardLines (askedOf d holder) (dealPieces d - 1) (d .secret) (d .random) (blockCount d holder) room
 
 -- what dealing answers: "Dealing returns the number of blocks"
 unfoldable pub dealing : Deal → ℕ → ℕ → Outcome ℕ

@@ -10,7 +10,7 @@ use Rattle.lists.specs.Some.{_∈_}
 use Rattle.block.specs.Words.{bytesOf}
 use Rattle.block.specs.Layout.{heldAt}
 use Rattle.block.specs.Open.{opening, valueBytes, TrueBlock}
-use Rattle.dealing.specs.Deal.{Deal, askedOf, held, values, label, blockOf, card}
+use Rattle.dealing.specs.Deal.{Deal, askedOf, heldBy, pieceValues, label, blockOf, card}
 use Rattle.dealing.specs.Dealt.{Made, blockCount, dealing, dealtInto}
 
 -- "A card depends on the policy, the deal number, the holder and the pieces held, and on nothing else." (Of the policy, not on the
@@ -19,15 +19,15 @@ abbrev pub CardDepends : Type 0
 CardDepends = (d d′ : Deal) (holder : ℕ)
     → askedOf d holder ≡ askedOf d′ holder
     → d .policy .required ≡ d′ .policy .required
-    → ((j : ℕ) → j ∈ held d holder → values d j ≡ values d′ j)
+    → ((j : ℕ) → j ∈ heldBy d holder → pieceValues d j ≡ pieceValues d′ j)
     → card d holder ≡ card d′ holder
 
 -- Every block of a card is true, and opens to its words and values.
 abbrev pub BlocksOpen : Type 0
-BlocksOpen = (d : Deal) → Made d → (holder j : ℕ) → 1 ≤ holder → holder ≤ d .policy .people → j ∈ held d holder → (rest : List ℕ)
+BlocksOpen = (d : Deal) → Made d → (holder j : ℕ) → 1 ≤ holder → holder ≤ d .policy .people → j ∈ heldBy d holder → (rest : List ℕ)
     → TrueBlock (blockOf d holder j ++ rest)
-    × (opening (blockOf d holder j ++ rest) ≡ done (run (heldAt (label d holder j) (values d j)) 1 7))
-    × (valueBytes (blockOf d holder j ++ rest) ≡ bytesOf (values d j))
+    × (opening (blockOf d holder j ++ rest) ≡ done (run (heldAt (label d holder j) (pieceValues d j)) 1 7))
+    × (valueBytes (blockOf d holder j ++ rest) ≡ bytesOf (pieceValues d j))
 
 -- "A card is one block of 512 bytes for each piece held."
 abbrev pub CardLength : Type 0

@@ -12,22 +12,22 @@ use Rattle.block.specs.Layout.{pieceOf, heldAt, labelOf}
 use Rattle.block.specs.Open.{TrueBlock}
 use Rattle.block.proofs.LayoutLaws.{held-rest}
 use Rattle.block.proofs.Laws.{written-words}
-use Rattle.dealing.specs.Deal.{Deal, pieceCount, blockFor, held, values, label, blockOf}
+use Rattle.dealing.specs.Deal.{Deal, dealPieces, blockFor, heldBy, pieceValues, label, blockOf}
 use Rattle.dealing.proofs.MadeLaws.{InRange, buildable, blocks-open}
 use Rattle.demands.specs.Demand2.{CardBlock}
 
 back : (v : ℕ) → 7 + v - 8 ≡ v - 1
 back v = omega arith
 
-module _ (d : Deal) (f : InRange d) (i j : ℕ) (least : 1 ≤ i) (most : i ≤ d .policy .people) (has : j ∈ held d i) (rest : List ℕ) where
+module _ (d : Deal) (f : InRange d) (i j : ℕ) (least : 1 ≤ i) (most : i ≤ d .policy .people) (has : j ∈ heldBy d i) (rest : List ℕ) where
   pub block-true : TrueBlock (blockOf d i j ++ rest)
   block-true = blocks-open d f i least most j has rest .0
 
   pub card-block : CardBlock d i j (blockOf d i j ++ rest)
-  unfolding blockOf blockFor label values
+  unfolding blockOf blockFor label pieceValues
   card-block =
       let l = label d i j in
-      let vs = values d j in
+      let vs = pieceValues d j in
       let word = written-words l vs rest (buildable d f i least most j has) .0 in
       record {
         words = word;
@@ -35,7 +35,7 @@ module _ (d : Deal) (f : InRange d) (i j : ℕ) (least : 1 ≤ i) (most : i ≤ 
             word (7 + v) (omega arith) (omega (arith, f .ready .width-in .1))
             ∙ held-rest l vs (7 + v) (omega arith)
             ∙ ap (λ (x : ℕ). getD vs x 0) (back v)
-            ∙ values-at (pieceCount d - 1) (d .secret) (d .random) j v low high;
+            ∙ values-at (dealPieces d - 1) (d .secret) (d .random) j v low high;
         check = sym (block-true .sum);
       }
 

@@ -6,7 +6,7 @@ use Rattle.answer.specs.Lent.{noRoom}
 use Rattle.planning.specs.Groups.{pieceCount}
 use Rattle.lists.specs.Some.{some}
 use Rattle.planning.specs.Planned.{planLines, planned, people, long, strangers, nobody, opens, clash, wide, listLines}
-use Rattle.block.specs.Layout.{headerOf}
+use Rattle.block.specs.Layout.{frontWords}
 use Rattle.block.specs.Open.{opening}
 use Rattle.block.proofs.Laws.{which-refusals}
 use Rattle.dealing.specs.Dealt.{badNumber, badHolder, badWidth, badSecret, badCount, badRandom, inputLines, blockCount, dealLines, dealing}
@@ -14,7 +14,7 @@ use Rattle.dealing.proofs.DealLaws.{refused-deal}
 use Rattle.dealing.proofs.MadeLaws.{made-in-range}
 use Rattle.dealing.proofs.Laws as dealt
 use Rattle.pile.specs.Blocks.{blocks}
-use Rattle.joining.specs.Pile.{width}
+use Rattle.joining.specs.Pile.{ownWidth}
 use Rattle.pile.specs.Lines.{everyBlock}
 use Rattle.joining.specs.Checks.{wholeLines, pileLines}
 use Rattle.joining.specs.Joined.{joinLines, joining}
@@ -35,11 +35,11 @@ deal-ends d holder room = ends (dealLines d holder room) (blockCount d holder)
 
 pub join-ends : demand.JoinEnds
 unfolding joining
-join-ends pile room = ends (joinLines pile room) (width pile)
+join-ends pile room = ends (joinLines pile room) (ownWidth pile)
 
 pub open-ends : demand.OpenEnds
 unfolding opening
-open-ends pile = ends (demand.openLines pile) (headerOf pile)
+open-ends pile = ends (demand.openLines pile) (frontWords pile)
 
 -- ---- the order
 pub plan-order : demand.PlanOrder
@@ -53,7 +53,7 @@ deal-order d holder room = refl
 pub join-order : demand.JoinOrder
 unfolding joinLines pileLines everyBlock noRoom
 join-order pile room =
-    let last = noRoom (width pile) (width pile) room ∷ [] in
+    let last = noRoom (ownWidth pile) (ownWidth pile) room ∷ [] in
     ap (λ (ls : List Line). 13 ∷ 14 ∷ demand.numbers ls) (append-assoc (everyBlock pile) (wholeLines pile) last)
     ∙ ap (λ (ms : List ℕ). 13 ∷ 14 ∷ ms) (each-number pile (blocks pile) 1 (wholeLines pile ++ last))
 
@@ -75,7 +75,7 @@ deal-refuses d holder room m a b e =
 pub join-refuses : demand.JoinRefuses
 unfolding joining some
 join-refuses pile room m a b e =
-    refuses 12 20 (joinLines pile room) (13 ∷ 14 ∷ demand.eachBlock (blocks pile) ++ 18 ∷ 19 ∷ 20 ∷ 12 ∷ []) (width pile) m a b
+    refuses 12 20 (joinLines pile room) (13 ∷ 14 ∷ demand.eachBlock (blocks pile) ++ 18 ∷ 19 ∷ 20 ∷ 12 ∷ []) (ownWidth pile) m a b
     (join-order pile room) (each-within (blocks pile) (18 ∷ 19 ∷ 20 ∷ 12 ∷ [])) e
 
 pub open-refuses : demand.OpenRefuses

@@ -12,7 +12,7 @@ use Rattle.planning.specs.Groups as groups
 use Rattle.planning.specs.Groups.{holds}
 use Rattle.lists.proofs.Truth.{not-so, so-not}
 use Rattle.planning.proofs.Laws as planning
-use Rattle.dealing.specs.Deal.{pieceCount, held}
+use Rattle.dealing.specs.Deal.{dealPieces, heldBy}
 use Rattle.dealing.specs.Dealt.{Made, blockCount}
 use Rattle.dealing.proofs.HeldLaws.{held-in, in-held}
 use Rattle.dealing.proofs.MadeLaws.{made-in-range, made-holder}
@@ -26,7 +26,7 @@ use Rattle.demands.proofs.CardLaws.{block-at}
 use Rattle.demands.proofs.OneBlock.{each-word}
 
 pub the-pieces : demand.ThePieces
-unfolding pieceCount
+unfolding dealPieces
 the-pieces d =
     let n = d .policy .people in
     let required = d .policy .required in (
@@ -36,7 +36,7 @@ the-pieces d =
     )
 
 pub who-holds : demand.WhoHolds
-unfolding held groups.held holds
+unfolding heldBy groups.held holds
 who-holds d i = (
   (λ j. (
     (λ m. let r = held-in d i j m in (r .0, r .1, not-so (member i (demand.groupOf d j)) (r .2))),

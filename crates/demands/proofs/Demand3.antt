@@ -4,7 +4,7 @@ use mathlib.Core.List.{List, _++_}
 use Prim.Native.Nat.{ℕ}
 use lib.ListN.{length, drop}
 use Rattle.answer.specs.Outcome.{done}
-use Rattle.dealing.specs.Deal.{pieceCount}
+use Rattle.dealing.specs.Deal.{dealPieces}
 use Rattle.dealing.proofs.MadeLaws.{made-in-range}
 use Rattle.field.proofs.HidingLaws.{none-favoured}
 use Rattle.joining.specs.Joined.{joining}
@@ -28,7 +28,7 @@ pub short : demand.Short
 short d made g group n pile w out =
     let f = made-in-range d made in
     let e = answer.short d f g group pile (reads d f g pile w) n (length out) in
-    let q = answer.short-refuses (length (gathered d g)) (pieceCount d) in
+    let q = answer.short-refuses (length (gathered d g)) (dealPieces d) in
     (e, refusal-keeps pile out 20 (q .0) (q .1) (e ∙ q .2))
 
 pub hides : demand.Hides

@@ -11,7 +11,7 @@ use Rattle.planning.specs.Groups.{authorised, holds}
 use Rattle.lists.proofs.Truth.{never, isn't}
 use Rattle.lists.proofs.SomeLaws.{some-in, in-some}
 use Rattle.planning.proofs.Laws as planning
-use Rattle.dealing.specs.Deal.{Deal, pieceCount, held}
+use Rattle.dealing.specs.Deal.{Deal, dealPieces, heldBy}
 use Rattle.dealing.proofs.HeldLaws.{held-in, in-held}
 use Rattle.demands.specs.Group.{Group, Contains, Member, members, gathers}
 
@@ -41,12 +41,12 @@ module _ (d : Deal) (g : ℕ) where
   contains-not n = isn't (λ t. n (so-contains t))
 
   -- ---- the pieces that it holds
-  pub gathers-by : (i j : ℕ) → Member d g i → j ∈ held d i → gathers d g j ≡ true
+  pub gathers-by : (i j : ℕ) → Member d g i → j ∈ heldBy d i → gathers d g j ≡ true
   unfolding gathers
   gathers-by i j m has =
       in-some (λ h. holds (d .policy .people) (d .policy .required) h j) (members d g) i (members-in d g i m) (held-in d i j has .2)
 
-  pub gathers-who : (j : ℕ) → 1 ≤ j → j ≤ pieceCount d → gathers d g j ≡ true → (i : ℕ) × Member d g i × (j ∈ held d i)
+  pub gathers-who : (j : ℕ) → 1 ≤ j → j ≤ dealPieces d → gathers d g j ≡ true → (i : ℕ) × Member d g i × (j ∈ heldBy d i)
   unfolding gathers
   gathers-who j l u t =
       let r = some-in (λ h. holds (d .policy .people) (d .policy .required) h j) (members d g) t in
@@ -54,27 +54,27 @@ module _ (d : Deal) (g : ℕ) where
 
   module _ (few : d .policy .people ≤ 8) (group : Group d g) where
     -- one that contains a required set holds every piece
-    pub all-held : Contains d g → (j : ℕ) → 1 ≤ j → j ≤ pieceCount d → (i : ℕ) × Member d g i × (j ∈ held d i)
-    unfolding pieceCount
+    pub all-held : Contains d g → (j : ℕ) → 1 ≤ j → j ≤ dealPieces d → (i : ℕ) × Member d g i × (j ∈ heldBy d i)
+    unfolding dealPieces
     all-held c j l u =
         let r = planning.gathers (d .policy .people) (d .policy .required) few g group .0 (contains-so c) j l u in
         (r .0, record { least = r .1; most = r .2; among = r .3 }, in-held d (r .0) j l u (r .4))
 
-    pub held-all : ((j : ℕ) → 1 ≤ j → j ≤ pieceCount d → (i : ℕ) × Member d g i × (j ∈ held d i)) → Contains d g
-    unfolding pieceCount
+    pub held-all : ((j : ℕ) → 1 ≤ j → j ≤ dealPieces d → (i : ℕ) × Member d g i × (j ∈ heldBy d i)) → Contains d g
+    unfolding dealPieces
     held-all h =
         so-contains (planning.gathers (d .policy .people) (d .policy .required) few g group .1
         (λ j l u. let r = h j l u in (r .0, r .1 .least, r .1 .most, r .1 .among, held-in d (r .0) j (r .2) .2)))
 
     -- any other lacks one
     pub one-lost : ¬ Contains d g
-        → (j : ℕ) × (1 ≤ j) × (j ≤ pieceCount d) × ((i : ℕ) → Member d g i → holds (d .policy .people) (d .policy .required) i j ≡ false)
-    unfolding pieceCount
+        → (j : ℕ) × (1 ≤ j) × (j ≤ dealPieces d) × ((i : ℕ) → Member d g i → holds (d .policy .people) (d .policy .required) i j ≡ false)
+    unfolding dealPieces
     one-lost n =
         let r = planning.lacks (d .policy .people) (d .policy .required) few g group (contains-not n) in
         (r .0, r .1, r .2, λ i m. r .4 i (m .least) (m .most) (m .among))
 
-    pub not-gathered : ¬ Contains d g → (j : ℕ) × (1 ≤ j) × (j ≤ pieceCount d) × (gathers d g j ≡ false)
+    pub not-gathered : ¬ Contains d g → (j : ℕ) × (1 ≤ j) × (j ≤ dealPieces d) × (gathers d g j ≡ false)
     not-gathered n =
         let r = one-lost n in (
           r .0,

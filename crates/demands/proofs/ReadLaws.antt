@@ -16,13 +16,13 @@ use Rattle.lists.proofs.Truth.{never}
 use Rattle.block.specs.declared.deal.DealWords.{DealWords}
 use Rattle.block.specs.declared.Label.{Label}
 use Rattle.block.specs.Open.{TrueBlock}
-use Rattle.dealing.specs.Deal.{Deal, label, pieceCount, held, values, blockOf, cardBlocks}
+use Rattle.dealing.specs.Deal.{Deal, label, dealPieces, heldBy, pieceValues, blockOf, cardBlocks}
 use Rattle.lists.specs.Flat.{flat}
 use Rattle.dealing.proofs.HeldLaws.{held-in}
 use Rattle.dealing.proofs.MadeLaws.{InRange}
 use Rattle.joining.specs.Pile as Pile
 use Rattle.pile.specs.Blocks.{blocks, restFrom, In, dealAt}
-use Rattle.joining.specs.Pile.{width, pieceAt, hasPiece, placeOf, valueOf, present, ownBlock}
+use Rattle.joining.specs.Pile.{ownWidth, pieceAt, hasPiece, placeOf, valueOf, present, ownBlock}
 use Rattle.joining.specs.Laws.{Sound}
 use Rattle.joining.proofs.SoundLaws.{place-held}
 use Rattle.joining.proofs.PileLaws.{own-in}
@@ -38,7 +38,7 @@ pub record Theirs (d : Deal) (g : ℕ) (b : List ℕ) : Type 0 where
   pub who : ℕ
   pub which : ℕ
   pub in-group : Member d g who
-  pub has : which ∈ held d who
+  pub has : which ∈ heldBy d who
   pub says : CardBlock d who which b
   pub is-true : TrueBlock b
 
@@ -47,20 +47,20 @@ pub record Reads (d : Deal) (g : ℕ) (pile : List ℕ) : Type 0 where
   pub whole : length pile % 512 ≡ 0
   pub few : blocks pile ≤ 560
   pub theirs : (a : ℕ) → In pile a → Theirs d g (restFrom pile a)
-  pub all : (i j : ℕ) → Member d g i → j ∈ held d i → (a : ℕ) × In pile a × (pieceAt pile a ≡ j)
+  pub all : (i j : ℕ) → Member d g i → j ∈ heldBy d i → (a : ℕ) × In pile a × (pieceAt pile a ≡ j)
 
 -- ---- from the bytes to the blocks
 module _ (d : Deal) (f : InRange d) (g : ℕ) (bs : List (List ℕ)) (c : CardsOf (cardBlocks d) (Member d g) bs) where
   -- a block of the cards is that of a member's piece
-  whose : (b : List ℕ) → List·Memᴰ b bs → (i : ℕ) × (j : ℕ) × Member d g i × (j ∈ held d i) × (b ≡ blockOf d i j)
+  whose : (b : List ℕ) → List·Memᴰ b bs → (i : ℕ) × (j : ℕ) × Member d g i × (j ∈ heldBy d i) × (b ≡ blockOf d i j)
   unfolding cardBlocks
   whose b m =
       let r = c .theirs b m in
-      let s = Memᴰ·of-map (blockOf d (r .0)) (held d (r .0)) (r .2) in
+      let s = Memᴰ·of-map (blockOf d (r .0)) (heldBy d (r .0)) (r .2) in
       (r .0, s .0, r .1, s .1, sym (s .2))
 
   -- block a of them laid one after another, where it is that of piece j
-  at-block : (a i j : ℕ) → 1 ≤ a → a ≤ length bs → Member d g i → j ∈ held d i → getD bs (a - 1) [] ≡ blockOf d i j
+  at-block : (a i j : ℕ) → 1 ≤ a → a ≤ length bs → Member d g i → j ∈ heldBy d i → getD bs (a - 1) [] ≡ blockOf d i j
       → CardBlock d i j (restFrom (flat bs) a) × TrueBlock (restFrom (flat bs) a)
   unfolding restFrom
   at-block a i j l u m has e =
@@ -93,30 +93,30 @@ reads d f g pile w = rw (w .bytes) (reads-flat d f g (w .blocks) (w .whole) (w .
 -- ---- from the blocks to what joining asks
 module _ {d : Deal} {g : ℕ} {pile : List ℕ} (r : Reads d g pile) where
   -- a block's piece is one of 1 to k
-  pub piece-in : (a : ℕ) → In pile a → (1 ≤ pieceAt pile a) × (pieceAt pile a ≤ pieceCount d)
+  pub piece-in : (a : ℕ) → In pile a → (1 ≤ pieceAt pile a) × (pieceAt pile a ≤ dealPieces d)
   piece-in a h =
       let t = r .theirs a h in
       let q = held-in d (t .who) (t .which) (t .has) in
       (omega (arith, q .0, piece-is (t .says)), omega (arith, q .1, piece-is (t .says)))
 
-  deal-is : (a : ℕ) → In pile a → dealAt pile a ≡ record { number = d .number; people = d .policy .people; pieces = pieceCount d; width = length (d .secret) }
+  deal-is : (a : ℕ) → In pile a → dealAt pile a ≡ record { number = d .number; people = d .policy .people; pieces = dealPieces d; width = length (d .secret) }
   unfolding label
   deal-is a h = ap (λ (l : Label). l .deal) (label-is (r .theirs a h .says))
 
-  pub pieces-are : 1 ≤ blocks pile → Pile.pieceCount pile ≡ pieceCount d
+  pub pieces-are : 1 ≤ blocks pile → Pile.ownPieces pile ≡ dealPieces d
   pieces-are some = ap (λ (w : DealWords). w .pieces) (deal-is (ownBlock pile) (own-in pile some))
 
-  pub width-is : 1 ≤ blocks pile → width pile ≡ length (d .secret)
+  pub width-is : 1 ≤ blocks pile → ownWidth pile ≡ length (d .secret)
   width-is some = ap (λ (w : DealWords). w .width) (deal-is (ownBlock pile) (own-in pile some))
 
   -- value i of block a is that of its piece
-  pub value-is : (a i : ℕ) → In pile a → 1 ≤ i → i ≤ length (d .secret) → valueOf pile a i ≡ getD (values d (pieceAt pile a)) (i - 1) 0
-  unfolding values
+  pub value-is : (a i : ℕ) → In pile a → 1 ≤ i → i ≤ length (d .secret) → valueOf pile a i ≡ getD (pieceValues d (pieceAt pile a)) (i - 1) 0
+  unfolding pieceValues
   value-is a i h l u =
       let t = r .theirs a h in
       t .says .value i l u
-      ∙ sym (values-at (pieceCount d - 1) (d .secret) (d .random) (t .which) i l u)
-      ∙ ap (λ (j : ℕ). getD (values d j) (i - 1) 0) (sym (piece-is (t .says)))
+      ∙ sym (values-at (dealPieces d - 1) (d .secret) (d .random) (t .which) i l u)
+      ∙ ap (λ (j : ℕ). getD (pieceValues d j) (i - 1) 0) (sym (piece-is (t .says)))
 
   pub sound : Sound pile
   sound = record {
@@ -126,7 +126,7 @@ module _ {d : Deal} {g : ℕ} {pile : List ℕ} (r : Reads d g pile) where
     one-deal = λ a b h k. deal-is a h ∙ sym (deal-is b k);
     agree = λ a b h k e i l u.
         let v : i ≤ length (d .secret) = omega (arith, width-is (omega (arith, h .0, h .1))) in
-        value-is a i h l v ∙ ap (λ (j : ℕ). getD (values d j) (i - 1) 0) e ∙ sym (value-is b i k l v);
+        value-is a i h l v ∙ ap (λ (j : ℕ). getD (pieceValues d j) (i - 1) 0) e ∙ sym (value-is b i k l v);
   }
 
   -- ---- where a piece lies
@@ -139,7 +139,7 @@ module _ {d : Deal} {g : ℕ} {pile : List ℕ} (r : Reads d g pile) where
       ne-eqb (pieceAt pile a) j
       (λ e. never none (subst (λ (x : ℕ). gathers d g x ≡ true) (sym (piece-is (t .says)) ∙ e) (gathers-by d g (t .who) (t .which) (t .in-group) (t .has)))))
 
-  place-found : (j : ℕ) → 1 ≤ j → j ≤ pieceCount d → (x : Bool) → gathers d g j ≡ x → found (placeOf pile j) ≡ x
+  place-found : (j : ℕ) → 1 ≤ j → j ≤ dealPieces d → (x : Bool) → gathers d g j ≡ x → found (placeOf pile j) ≡ x
   place-found j l u true e =
       let m = gathers-who d g j l u e in
       let a = r .all (m .0) j (m .1) (m .2) in
@@ -151,4 +151,4 @@ module _ {d : Deal} {g : ℕ} {pile : List ℕ} (r : Reads d g pile) where
   unfolding present gathered
   present-are some =
       rw (pieces-are some)
-      (those-same (λ j. found (placeOf pile j)) (gathers d g) 1 (pieceCount d) (λ j l u. place-found j l (omega arith) (gathers d g j) refl))
+      (those-same (λ j. found (placeOf pile j)) (gathers d g) 1 (dealPieces d) (λ j l u. place-found j l (omega arith) (gathers d g j) refl))

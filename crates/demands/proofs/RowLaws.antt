@@ -11,7 +11,7 @@ use Rattle.planning.specs.Sets.{member}
 use Rattle.planning.specs.Groups as planning
 use Rattle.lists.specs.Some.{_∈_}
 use Rattle.planning.specs.Groups.{holds}
-use Rattle.dealing.specs.Deal.{Deal, pieceCount, held, blockOf, cardBlocks, card}
+use Rattle.dealing.specs.Deal.{Deal, dealPieces, heldBy, blockOf, cardBlocks, card}
 use Rattle.lists.specs.Flat.{flat}
 use Rattle.dealing.specs.Dealt.{Made, blockCount}
 use Rattle.dealing.proofs.MadeLaws.{InRange, made-in-range, card-length}
@@ -72,9 +72,9 @@ module _ (d : Deal) where
   -- ---- a card has at most k blocks, and k is at most 70
   module _ (f : InRange d) where
     card-few : (i : ℕ) → length (card d i) ≤ 512 * 70
-    unfolding blockCount held planning.held pieceCount
+    unfolding blockCount heldBy planning.held dealPieces
     card-few i =
-        omega (arith, card-length d i, f .ready .most, those-few (holds (d .policy .people) (d .policy .required) i) 1 (pieceCount d))
+        omega (arith, card-length d i, f .ready .most, those-few (holds (d .policy .people) (d .policy .required) i) 1 (dealPieces d))
 
     cards-few : (g : ℕ) (hs : List ℕ) → ((i : ℕ) → i ∈ hs → Member d g i) → length (cards d hs) ≤ 512 * 70 * length hs
     unfolding cards flat

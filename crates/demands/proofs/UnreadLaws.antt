@@ -18,7 +18,7 @@ use Rattle.block.specs.Open.{firstAbove, unread as unreadLine, check, header, b
 use Rattle.block.proofs.OpenLaws.{small-of}
 use Rattle.block.proofs.Laws.{true-means}
 use Rattle.pile.specs.Blocks.{blocks, restFrom, word, In}
-use Rattle.joining.specs.Pile.{width}
+use Rattle.joining.specs.Pile.{ownWidth}
 use Rattle.pile.specs.Lines.{tornPile, longPile, linesFrom, everyBlock}
 use Rattle.joining.specs.Checks.{wholeLines, pileLines}
 use Rattle.joining.specs.Joined.{joinLines, joining}
@@ -46,9 +46,9 @@ module _ (pile : List ℕ) (a i : ℕ) (l : 1 ≤ i) (u : i ≤ 256) (h : 32748 
       → joining pile room ≡ refused 15 a 0
   unfolding joining joinLines pileLines everyBlock
   unread room whole few k t =
-      let last = noRoom (width pile) (width pile) room ∷ [] in
-      let end = firstFail last (done (width pile)) in
-      append-lines (pileLines pile) last (done (width pile))
+      let last = noRoom (ownWidth pile) (ownWidth pile) room ∷ [] in
+      let end = firstFail last (done (ownWidth pile)) in
+      append-lines (pileLines pile) last (done (ownWidth pile))
       ∙ not-given (tornPile pile) (longPile pile ∷ everyBlock pile ++ wholeLines pile) end (found-none whole)
       ∙ not-given (longPile pile) (everyBlock pile ++ wholeLines pile) end (le-ltb 560 (blocks pile) few)
       ∙ unread-from (blocks pile) 1 (wholeLines pile) end (k .0) (omega (arith, k .1)) t

@@ -13,13 +13,13 @@ use Rattle.prime.specs.Prime.{Below}
 use Rattle.planning.specs.Groups.{pieceCount}
 use Rattle.planning.specs.Policy.{Policy}
 use Rattle.planning.specs.Planned.{planLines, planned}
-use Rattle.block.specs.Layout.{headerOf}
+use Rattle.block.specs.Layout.{frontWords}
 use Rattle.block.specs.Open.{torn, blockLines, opening, TrueBlock}
 use Rattle.block.specs.Laws.{Refusable}
 use Rattle.dealing.specs.Deal.{Deal}
 use Rattle.dealing.specs.Dealt.{blockCount, dealLines, dealing, dealtInto}
 use Rattle.pile.specs.Blocks.{blocks, restFrom, word, In}
-use Rattle.joining.specs.Pile.{width}
+use Rattle.joining.specs.Pile.{ownWidth}
 use Rattle.joining.specs.Joined.{joinLines, joining, joinedInto}
 
 -- A call is planning::plan, dealing::deal, joining::join or block::open. None has a `requires`, so each takes every input; that it ends is
@@ -49,14 +49,14 @@ abbrev pub DealEnds : Type 0
 DealEnds = (d : Deal) (holder room : ℕ) → Ends (dealLines d holder room) (blockCount d holder) (dealing d holder room)
 
 abbrev pub JoinEnds : Type 0
-JoinEnds = (pile : List ℕ) (room : ℕ) → Ends (joinLines pile room) (width pile) (joining pile room)
+JoinEnds = (pile : List ℕ) (room : ℕ) → Ends (joinLines pile room) (ownWidth pile) (joining pile room)
 
 -- "fewer is TORN, then 15, 16, 17"
 abbrev pub openLines : List ℕ → List Line
 openLines pile = torn pile ∷ blockLines pile 1
 
 abbrev pub OpenEnds : Type 0
-OpenEnds = (pile : List ℕ) → Ends (openLines pile) (headerOf pile) (opening pile)
+OpenEnds = (pile : List ℕ) → Ends (openLines pile) (frontWords pile) (opening pile)
 
 -- ---- "in the stated order"
 -- the numbers of the lines, in their order

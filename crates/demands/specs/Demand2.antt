@@ -18,7 +18,7 @@ use Rattle.planning.specs.Planned.{listLines}
 use Rattle.planning.specs.Laws.{Suits, Clashes}
 use Rattle.block.specs.Words.{wordAt, checkOf}
 use Rattle.block.specs.Layout.{heldAt}
-use Rattle.dealing.specs.Deal.{Deal, pieceCount, held, values, label, card}
+use Rattle.dealing.specs.Deal.{Deal, dealPieces, heldBy, pieceValues, label, card}
 use Rattle.dealing.specs.Dealt.{Made, dealing, dealtInto}
 use Rattle.joining.specs.Joined.{joining, joinedInto}
 use Rattle.joining.specs.Laws.{Joins, Fits}
@@ -38,31 +38,31 @@ groupOf d j = planning.groupOf (d .policy .people) (d .policy .required) j
 -- "Piece j belongs to the j-th maximal unauthorised group in rising order of the set's number; k is how many there are."
 abbrev pub ThePieces : Type 0
 ThePieces = (d : Deal)
-    → ((j : ℕ) → 1 ≤ j → j ≤ pieceCount d → Maximal d (groupOf d j))
-    × ((g : ℕ) → Maximal d g → (j : ℕ) × (1 ≤ j) × (j ≤ pieceCount d) × (groupOf d j ≡ g))
-    × ((i j : ℕ) → 1 ≤ i → i < j → j ≤ pieceCount d → groupOf d i < groupOf d j)
+    → ((j : ℕ) → 1 ≤ j → j ≤ dealPieces d → Maximal d (groupOf d j))
+    × ((g : ℕ) → Maximal d g → (j : ℕ) × (1 ≤ j) × (j ≤ dealPieces d) × (groupOf d j ≡ g))
+    × ((i j : ℕ) → 1 ≤ i → i < j → j ≤ dealPieces d → groupOf d i < groupOf d j)
 
 -- ---- "who holds which"
 -- "A person holds exactly the pieces whose group does not contain that person": in rising number.
 abbrev pub WhoHolds : Type 0
 WhoHolds = (d : Deal) (i : ℕ)
-    → ((j : ℕ) → (j ∈ held d i) ↔ ((1 ≤ j) × (j ≤ pieceCount d) × (member i (groupOf d j) ≡ false)))
-    × ((a b : ℕ) → 1 ≤ a → a < b → b ≤ length (held d i) → at (held d i) a < at (held d i) b)
+    → ((j : ℕ) → (j ∈ heldBy d i) ↔ ((1 ≤ j) × (j ≤ dealPieces d) × (member i (groupOf d j) ≡ false)))
+    × ((a b : ℕ) → 1 ≤ a → a < b → b ≤ length (heldBy d i) → at (heldBy d i) a < at (heldBy d i) b)
 
 -- Source 000's Theorem 1: a group contains a required set exactly when its members together hold every piece.
 abbrev pub WhoOpens : Type 0
 WhoOpens = (d : Deal) → Made d → (g : ℕ) → Group d g
-    → Contains d g ↔ ((j : ℕ) → 1 ≤ j → j ≤ pieceCount d → (i : ℕ) × Member d g i × (j ∈ held d i))
+    → Contains d g ↔ ((j : ℕ) → 1 ≤ j → j ≤ dealPieces d → (i : ℕ) × Member d g i × (j ∈ heldBy d i))
 
 -- ---- "every byte of every card"
 -- "k−1 coefficients a1 to a(k−1), taken in order from the lent randomness: those of word 1 first, then word 2": those of word i
 abbrev pub coefficients : Deal → ℕ → List ℕ
-coefficients d i = take (pieceCount d - 1) (drop ((i - 1) * (pieceCount d - 1)) (d .random))
+coefficients d i = take (dealPieces d - 1) (drop ((i - 1) * (dealPieces d - 1)) (d .random))
 
 -- the block of piece j on the holder's card, at the front of b: each of words 1 to 255 is what the table of the layout has there for that
 -- card's label and the piece's values; each value is the polynomial's at j; and the last word is the check of the others
 pub record CardBlock (d : Deal) (holder j : ℕ) (b : List ℕ) : Type 0 where
-  pub words : (i : ℕ) → 1 ≤ i → i ≤ 255 → wordAt b i ≡ heldAt (label d holder j) (values d j) i
+  pub words : (i : ℕ) → 1 ≤ i → i ≤ 255 → wordAt b i ≡ heldAt (label d holder j) (pieceValues d j) i
   pub value : (i : ℕ) → 1 ≤ i → i ≤ length (d .secret) → wordAt b (7 + i) ≡ piece (at (d .secret) i) (coefficients d i) j
   pub check : wordAt b 256 ≡ checkOf b
 
@@ -75,9 +75,9 @@ OneBlock = (d : Deal) (holder j : ℕ) (b c : List ℕ) → CardBlock d holder j
 -- the lent output.
 abbrev pub EveryByte : Type 0
 EveryByte = (d : Deal) (holder : ℕ) (out : List ℕ) (blocks : ℕ) → dealing d holder (length out) ≡ done blocks
-    → (blocks ≡ length (held d holder))
+    → (blocks ≡ length (heldBy d holder))
     × (length (card d holder) ≡ 512 * blocks)
-    × ((a : ℕ) → 1 ≤ a → a ≤ blocks → CardBlock d holder (at (held d holder) a) (drop (512 * (a - 1)) (card d holder)))
+    × ((a : ℕ) → 1 ≤ a → a ≤ blocks → CardBlock d holder (at (heldBy d holder) a) (drop (512 * (a - 1)) (card d holder)))
     × (dealtInto d holder out ≡ card d holder ++ drop (512 * blocks) out)
 
 -- ---- "Lists are refused as clashing exactly when, the earlier checks being passed, no family of groups that grows with its members fits

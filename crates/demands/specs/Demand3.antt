@@ -9,7 +9,7 @@ use Rattle.prime.specs.Prime.{Below}
 use Rattle.field.specs.Hiding.{Matched, Hidden, Gives}
 use Rattle.field.specs.Pieces.{Random}
 use Rattle.lists.specs.Some.{_∈_}
-use Rattle.dealing.specs.Deal.{Deal, again, pieceCount, card}
+use Rattle.dealing.specs.Deal.{Deal, again, dealPieces, card}
 use Rattle.dealing.specs.Dealt.{Made, dealing, dealtInto}
 use Rattle.joining.specs.Joined.{joining, joinedInto}
 use Rattle.demands.specs.Group.{Group, Contains, Member, WholeCards, cards, members, gathered}
@@ -34,12 +34,12 @@ abbrev pub Short : Type 0
 Short = (d : Deal) → Made d → (g : ℕ) → Group d g → ¬ Contains d g
     → (pile : List ℕ) → WholeCards d g pile
     → (out : List ℕ)
-    → (joining pile (length out) ≡ shortOf (length (gathered d g)) (pieceCount d))
+    → (joining pile (length out) ≡ shortOf (length (gathered d g)) (dealPieces d))
     × (joinedInto pile out ≡ out)
 
 -- the randomness that dealing can be lent for this secret, by the deal's policy
 abbrev pub LentFor : Deal → List ℕ → List ℕ → Type 0
-LentFor d secret = Random (length secret) (pieceCount d)
+LentFor d secret = Random (length secret) (dealPieces d)
 
 -- a holder's card, where this secret is dealt with that randomness, by the deal's policy and under its number
 abbrev pub cardFrom : Deal → List ℕ → List ℕ → ℕ → List ℕ

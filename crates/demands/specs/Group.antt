@@ -9,7 +9,7 @@ use Rattle.lists.specs.Places.{those}
 use Rattle.planning.specs.Sets.{member, inside}
 use Rattle.lists.specs.Some.{_∈_, some}
 use Rattle.planning.specs.Groups.{holds}
-use Rattle.dealing.specs.Deal.{Deal, pieceCount, cardBlocks, card}
+use Rattle.dealing.specs.Deal.{Deal, dealPieces, cardBlocks, card}
 use Rattle.lists.specs.Flat.{flat}
 
 -- g is a group of the deal's people: it names no person above n
@@ -55,4 +55,4 @@ gathers d g j = some (λ i. holds (d .policy .people) (d .policy .required) i j)
 
 -- the distinct pieces that the group holds, in rising number
 unfoldable pub gathered : Deal → ℕ → List ℕ
-gathered d g = those (gathers d g) 1 (pieceCount d)
+gathered d g = those (gathers d g) 1 (dealPieces d)

@@ -17,7 +17,7 @@ use Rattle.lists.specs.Laws.{IsFirst}
 use Rattle.lists.proofs.Truth.{never, isn't, both, and-no}
 use Rattle.lists.proofs.FirstLaws.{none-in, first-all, first-of, is-first, has-test, below-end, found-some, found-none, none-found}
 use Rattle.pile.specs.Blocks.{blocks, In, firstBlock}
-use Rattle.joining.specs.Pile.{width, pieceAt, hasPiece, placeOf, valueOf, differIn}
+use Rattle.joining.specs.Pile.{ownWidth, pieceAt, hasPiece, placeOf, valueOf, differIn}
 use Rattle.joining.specs.Checks.{contradicts, contradictedBy, conflictAt, conflict}
 
 -- two tests have one first place, where the second holds only where the first does, and holds at the first's first place
@@ -39,7 +39,7 @@ first-two s t n f g = go (ℕ-discrete (firstIn s 1 (n + 1)) 0)
 
 -- two blocks have the same values
 pub record Same (pile : List ℕ) (a b : ℕ) : Type 0 where
-  pub same : (i : ℕ) → 1 ≤ i → i ≤ width pile → valueOf pile a i ≡ valueOf pile b i
+  pub same : (i : ℕ) → 1 ≤ i → i ≤ ownWidth pile → valueOf pile a i ≡ valueOf pile b i
 
 pub same-of : (pile : List ℕ) (a b : ℕ) → differIn pile a b ≡ 0 → Same pile a b
 unfolding differIn
@@ -47,13 +47,13 @@ same-of pile a b z = record {
   same = λ i l h.
       eqb-true (valueOf pile a i) (valueOf pile b i)
       (not-false (eqb (valueOf pile a i) (valueOf pile b i))
-      (none-in (λ k. not (eqb (valueOf pile a k) (valueOf pile b k))) 1 (width pile + 1) (le-refl 1) z i l (omega arith)));
+      (none-in (λ k. not (eqb (valueOf pile a k) (valueOf pile b k))) 1 (ownWidth pile + 1) (le-refl 1) z i l (omega arith)));
 }
 
 pub of-same : (pile : List ℕ) (a b : ℕ) → Same pile a b → differIn pile a b ≡ 0
 unfolding differIn
 of-same pile a b s =
-    first-all (λ k. not (eqb (valueOf pile a k) (valueOf pile b k))) 1 (width pile + 1)
+    first-all (λ k. not (eqb (valueOf pile a k) (valueOf pile b k))) 1 (ownWidth pile + 1)
     (λ k l h. ap not (eq-eqb (valueOf pile a k) (valueOf pile b k) (s .same k l (omega arith))))
 
 -- the first block of the piece of block a, and that a differs from it

@@ -7,7 +7,7 @@ use lib.ListN.{length, drop}
 use Rattle.lists.specs.Over.{over}
 use Rattle.answer.proofs.LentLaws as lent
 use Rattle.field.proofs.SecretLaws.{secret-length}
-use Rattle.joining.specs.Pile.{pieceCount, width, valueAt}
+use Rattle.joining.specs.Pile.{ownPieces, ownWidth, valueAt}
 use Rattle.joining.specs.Joined.{joining, joinedInto}
 use Rattle.joining.specs.Secret.{secret}
 use Rattle.joining.specs.Laws as law
@@ -54,7 +54,7 @@ pub result-writes : law.ResultWrites
 unfolding joinedInto over
 result-writes pile old w e =
     let t = sound.then-joins pile (length old) w e in
-    let n : length (secret pile) ≡ w = secret-length (valueAt pile) (pieceCount pile) (width pile) ∙ t .is in
+    let n : length (secret pile) ≡ w = secret-length (valueAt pile) (ownPieces pile) (ownWidth pile) ∙ t .is in
     (n, lent.result-writes (joining pile (length old)) w (secret pile) old e ∙ ap (λ (x : ℕ). secret pile ++ drop x old) n)
 
 pub refusal-keeps : law.RefusalKeeps

@@ -14,7 +14,7 @@ use Rattle.block.proofs.Laws.{only-words}
 use Rattle.field.specs.Secret.{column, secretOf}
 use Rattle.field.proofs.SecretLaws.{secret-at, secret-length}
 use Rattle.pile.specs.Blocks.{blocks, restFrom, word, TrueBlocks, dealAt}
-use Rattle.joining.specs.Pile.{ownBlock, ownDeal, pieceCount, width, pieceAt, valueOf, valueAt}
+use Rattle.joining.specs.Pile.{ownBlock, ownDeal, ownPieces, ownWidth, pieceAt, valueOf, valueAt}
 use Rattle.joining.specs.Secret.{secret}
 use Rattle.joining.specs.Laws.{Joins, Fits, Alike, Among, Within}
 use Rattle.pile.proofs.PileLaws.{rest-long}
@@ -44,10 +44,10 @@ module _ (pile other : List ℕ) (room w : ℕ) (t : Joins pile room w) (f : Amo
   same-own : ownDeal other ≡ ownDeal pile
   same-own = let x = f .block (ownBlock other) (own-in other some) in deal-same (x .2) ∙ sound-deal pile (t .sound) (x .0) (x .1)
 
-  same-pieces : pieceCount other ≡ pieceCount pile
+  same-pieces : ownPieces other ≡ ownPieces pile
   same-pieces = ap (λ (d : DealWords). d .pieces) same-own
 
-  same-width : width other ≡ width pile
+  same-width : ownWidth other ≡ ownWidth pile
   same-width = ap (λ (d : DealWords). d .width) same-own
 
 pub other-joins : (pile other : List ℕ) (room w : ℕ) → Joins pile room w → length other % 512 ≡ 0 → blocks other ≤ 560 → TrueBlocks other
@@ -86,17 +86,17 @@ other-joins pile other room w t whole few true-other g f =
 pub same-secret : (pile other : List ℕ) (room w : ℕ) → Joins pile room w → Joins other room w → Among other pile → secret other ≡ secret pile
 same-secret pile other room w t u f =
     unfold secretOf in
-    run-is (λ i. joined (column (valueAt pile) (pieceCount pile) i)) (width pile) (secret other) (secret-length (valueAt other) (pieceCount other) (width other) ∙ ws)
+    run-is (λ i. joined (column (valueAt pile) (ownPieces pile) i)) (ownWidth pile) (secret other) (secret-length (valueAt other) (ownPieces other) (ownWidth other) ∙ ws)
     (λ i l h.
     let x = joined-secret pile room w t i l h in
     let y = joined-secret other room w u i l (omega (arith, ws)) in
     let e : x .0 ≡ y .0 = y .1 .only (x .0) (moved i (x .0) h (x .1 .is)) in
-    y .2 ∙ ap (λ (cs : List ℕ). value cs 0) (sym e) ∙ sym (x .2) ∙ secret-at (valueAt pile) (pieceCount pile) (width pile) i l h)
+    y .2 ∙ ap (λ (cs : List ℕ). value cs 0) (sym e) ∙ sym (x .2) ∙ secret-at (valueAt pile) (ownPieces pile) (ownWidth pile) i l h)
   where
-    ws : width other ≡ width pile
+    ws : ownWidth other ≡ ownWidth pile
     ws = u .is ∙ sym (t .is)
 
-    moved : (i : ℕ) (cs : List ℕ) → i ≤ width pile → Fits pile i cs → Fits other i cs
+    moved : (i : ℕ) (cs : List ℕ) → i ≤ ownWidth pile → Fits pile i cs → Fits other i cs
     moved i cs h m =
         let ks = same-pieces pile other room w t f (u .some) in
         let wide = width-in (full pile room w t .unmixed) in

@@ -15,7 +15,7 @@ use Rattle.block.specs.Layout.{labelOf}
 use Rattle.block.proofs.DealLaws.{same-deal}
 use Rattle.block.proofs.RangeLaws.{true-ranges}
 use Rattle.pile.specs.Blocks.{blocks, In, restFrom, dealAt, TrueBlocks}
-use Rattle.joining.specs.Pile.{ownBlock, ownDeal, pieceCount, width, pieceAt}
+use Rattle.joining.specs.Pile.{ownBlock, ownDeal, ownPieces, ownWidth, pieceAt}
 use Rattle.joining.specs.Checks.{mixedAt}
 use Rattle.joining.specs.True.{Unmixed}
 
@@ -47,14 +47,14 @@ module _ {pile : List ℕ} (u : Unmixed pile) where
   own-ranges : Ranges (labelOf (restFrom pile (ownBlock pile)))
   own-ranges = let o = own-in pile (u .some) in true-ranges (u .blocks-true .block (ownBlock pile) (o .0) (o .1))
 
-  pub width-in : (1 ≤ width pile) × (width pile ≤ 16)
+  pub width-in : (1 ≤ ownWidth pile) × (ownWidth pile ≤ 16)
   width-in = own-ranges .width
 
-  pub pieces-in : (1 ≤ pieceCount pile) × (pieceCount pile ≤ 70)
+  pub pieces-in : (1 ≤ ownPieces pile) × (ownPieces pile ≤ 70)
   pieces-in = own-ranges .pieces
 
   -- a block's piece is one of 1 to k
-  pub piece-in : (a : ℕ) → In pile a → (1 ≤ pieceAt pile a) × (pieceAt pile a ≤ pieceCount pile)
+  pub piece-in : (a : ℕ) → In pile a → (1 ≤ pieceAt pile a) × (pieceAt pile a ≤ ownPieces pile)
   piece-in a h =
       let r = true-ranges (u .blocks-true .block a (h .0) (h .1)) .piece in
       (r .0, omega (arith, r .1, ap (λ (d : DealWords). d .pieces) (u .own-deal a h)))

@@ -11,7 +11,7 @@ use Rattle.field.specs.Secret.{column}
 use Rattle.field.proofs.SecretLaws.{column-length, column-at}
 use Rattle.field.proofs.Laws.{secret-one}
 use Rattle.pile.specs.Blocks.{blocks, In}
-use Rattle.joining.specs.Pile.{pieceCount, width, pieceAt, placeOf, valueAt}
+use Rattle.joining.specs.Pile.{ownPieces, ownWidth, pieceAt, placeOf, valueAt}
 use Rattle.joining.specs.Secret.{secret}
 use Rattle.joining.specs.True.{Full}
 use Rattle.joining.specs.Laws.{Joins, Fits}
@@ -27,34 +27,34 @@ module _ (pile : List ℕ) (room w : ℕ) (t : Joins pile room w) where
   }
 
   -- the first block of piece j
-  placed : (j : ℕ) → 1 ≤ j → j ≤ pieceCount pile → In pile (placeOf pile j) × (pieceAt pile (placeOf pile j) ≡ j)
+  placed : (j : ℕ) → 1 ≤ j → j ≤ ownPieces pile → In pile (placeOf pile j) × (pieceAt pile (placeOf pile j) ≡ j)
   placed j l h = place-has pile j (full .place j l h)
 
   -- a polynomial through a column is one through the blocks, and the other way round
-  fits-of : (i : ℕ) (cs : List ℕ) → 1 ≤ i → i ≤ width pile → Through cs (column (valueAt pile) (pieceCount pile) i) → Fits pile i cs
+  fits-of : (i : ℕ) (cs : List ℕ) → 1 ≤ i → i ≤ ownWidth pile → Through cs (column (valueAt pile) (ownPieces pile) i) → Fits pile i cs
   fits-of i cs l h c = record {
-    degree = c .degree ∙ column-length (valueAt pile) (pieceCount pile) i;
+    degree = c .degree ∙ column-length (valueAt pile) (ownPieces pile) i;
     below = c .below;
     meets = λ a g.
         let j = pieceAt pile a in
         let k = piece-in (full .unmixed) a g in
         let r = placed j (k .0) (k .1) in
-        t .sound .agree a (placeOf pile j) g (r .0) (sym (r .1)) i l h ∙ sym (column-at (valueAt pile) (pieceCount pile) i j (k .0) (k .1))
-        ∙ c .meets j (k .0) (omega (arith, column-length (valueAt pile) (pieceCount pile) i, k .1));
+        t .sound .agree a (placeOf pile j) g (r .0) (sym (r .1)) i l h ∙ sym (column-at (valueAt pile) (ownPieces pile) i j (k .0) (k .1))
+        ∙ c .meets j (k .0) (omega (arith, column-length (valueAt pile) (ownPieces pile) i, k .1));
   }
 
-  of-fits : (i : ℕ) (cs : List ℕ) → Fits pile i cs → Through cs (column (valueAt pile) (pieceCount pile) i)
+  of-fits : (i : ℕ) (cs : List ℕ) → Fits pile i cs → Through cs (column (valueAt pile) (ownPieces pile) i)
   of-fits i cs f = record {
-    degree = f .degree ∙ sym (column-length (valueAt pile) (pieceCount pile) i);
+    degree = f .degree ∙ sym (column-length (valueAt pile) (ownPieces pile) i);
     below = f .below;
     meets = λ j l h.
-        let m : j ≤ pieceCount pile = omega (arith, column-length (valueAt pile) (pieceCount pile) i) in
+        let m : j ≤ ownPieces pile = omega (arith, column-length (valueAt pile) (ownPieces pile) i) in
         let r = placed j l m in
-        column-at (valueAt pile) (pieceCount pile) i j l m ∙ f .meets (placeOf pile j) (r .0) ∙ ap (λ (x : ℕ). value cs x % p) (r .1);
+        column-at (valueAt pile) (ownPieces pile) i j l m ∙ f .meets (placeOf pile j) (r .0) ∙ ap (λ (x : ℕ). value cs x % p) (r .1);
   }
 
-  pub joined-secret : (i : ℕ) → 1 ≤ i → i ≤ width pile → (cs : List ℕ) × One (Fits pile i) cs × (getD (secret pile) (i - 1) 0 ≡ value cs 0)
+  pub joined-secret : (i : ℕ) → 1 ≤ i → i ≤ ownWidth pile → (cs : List ℕ) × One (Fits pile i) cs × (getD (secret pile) (i - 1) 0 ≡ value cs 0)
   joined-secret i l h =
       let k = pieces-in (full .unmixed) in
-      let r = secret-one (valueAt pile) (pieceCount pile) (width pile) (omega (arith, k .1)) (value-below full) .2 i l h in
+      let r = secret-one (valueAt pile) (ownPieces pile) (ownWidth pile) (omega (arith, k .1)) (value-below full) .2 i l h in
       (r .0, record { is = fits-of i (r .0) l h (r .1 .is); only = λ ds f. r .1 .only ds (of-fits i ds f) }, r .2)

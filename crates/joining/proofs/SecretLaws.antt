@@ -15,7 +15,7 @@ use Rattle.prime.specs.Prime.{p}
 use Rattle.field.specs.Secret.{column}
 use Rattle.field.proofs.SecretLaws.{column-length}
 use Rattle.pile.proofs.PileLaws.{word-small}
-use Rattle.joining.specs.Pile.{pieceCount, width, placeOf, valueAt}
+use Rattle.joining.specs.Pile.{ownPieces, ownWidth, placeOf, valueAt}
 use Rattle.joining.specs.True.{Full}
 use Rattle.joining.proofs.PileLaws.{width-in}
 use Rattle.joining.proofs.TableLaws.{place-most}
@@ -39,7 +39,7 @@ module _ (v : ℕ → ℕ → ℕ) (k i : ℕ) (old values : List ℕ) (is : val
   column-counts = ap length column-front ∙ column-length v k i
 
 -- ---- the values of a full pile's pieces
-pub value-below : {pile : List ℕ} → Full pile → (j i : ℕ) → 1 ≤ j → j ≤ pieceCount pile → 1 ≤ i → i ≤ width pile → valueAt pile j i < p
+pub value-below : {pile : List ℕ} → Full pile → (j i : ℕ) → 1 ≤ j → j ≤ ownPieces pile → 1 ≤ i → i ≤ ownWidth pile → valueAt pile j i < p
 value-below {pile} f j i l h m n =
     let u = f .unmixed in
     let b = width-in u .1 in

@@ -21,34 +21,34 @@ use Rattle.lists.proofs.ThoseLaws.{those-same, count-hit, count-miss}
 use Rattle.block.specs.Words.{wordAt}
 use Rattle.pile.specs.Blocks.{blocks, restFrom}
 use Rattle.pile.specs.Lines.{linesFrom, everyBlock}
-use Rattle.joining.specs.Pile.{ownBlock, pieceCount, placeOf, present}
+use Rattle.joining.specs.Pile.{ownBlock, ownPieces, placeOf, present}
 use Rattle.joining.specs.Checks.{mixedAt, conflictAt, short, pileLines}
-use Rattle.joining.specs.True.{marked}
+use Rattle.joining.specs.True.{placed}
 
 -- ---- one turn of the count: piece j + 1
 here : (j : ℕ) → 1 + j - 1 ≡ j
 here j = omega arith
 
-pub turn-found : (table : List ℕ) (j n : ℕ) → n ≡ length (those (marked table) 1 j) → getD table j 0 ≢ 0 → n + 1 ≡ length (those (marked table) 1 (j + 1))
-turn-found table j n e h = count-hit (marked table) 1 j n e (rw (here j) (found-some h))
+pub turn-found : (table : List ℕ) (j n : ℕ) → n ≡ length (those (placed table) 1 j) → getD table j 0 ≢ 0 → n + 1 ≡ length (those (placed table) 1 (j + 1))
+turn-found table j n e h = count-hit (placed table) 1 j n e (rw (here j) (found-some h))
 
-pub turn-missing : (table : List ℕ) (j n : ℕ) → n ≡ length (those (marked table) 1 j) → getD table j 0 ≡ 0 → n ≡ length (those (marked table) 1 (j + 1))
-turn-missing table j n e h = count-miss (marked table) 1 j n e (rw (here j) (found-none h))
+pub turn-missing : (table : List ℕ) (j n : ℕ) → n ≡ length (those (placed table) 1 j) → getD table j 0 ≡ 0 → n ≡ length (those (placed table) 1 (j + 1))
+turn-missing table j n e h = count-miss (placed table) 1 j n e (rw (here j) (found-none h))
 
 -- the pieces present, read off the table
-pub present-is : (pile table : List ℕ) (k : ℕ) → k ≡ pieceCount pile → k ≤ 70 → table ≡ run (placeOf pile) 1 70 → those (marked table) 1 k ≡ present pile
+pub present-is : (pile table : List ℕ) (k : ℕ) → k ≡ ownPieces pile → k ≤ 70 → table ≡ run (placeOf pile) 1 70 → those (placed table) 1 k ≡ present pile
 unfolding present
 present-is pile table k e h t =
-    those-same (marked table) (λ j. found (placeOf pile j)) 1 k
+    those-same (placed table) (λ j. found (placeOf pile j)) 1 k
     (λ j l m. ap found (ap (λ (u : List ℕ). getD u (j - 1) 0) t ∙ run-at (placeOf pile) 70 j l (omega arith)))
     ∙ ap (those (λ j. found (placeOf pile j)) 1) e
 
 -- ---- the line
-pub short-given : (pile : List ℕ) → length (present pile) < pieceCount pile → short pile .given ≡ true
-short-given pile h = or-r (eqb (blocks pile) 0) (lt-ltb (length (present pile)) (pieceCount pile) h)
+pub short-given : (pile : List ℕ) → length (present pile) < ownPieces pile → short pile .given ≡ true
+short-given pile h = or-r (eqb (blocks pile) 0) (lt-ltb (length (present pile)) (ownPieces pile) h)
 
-pub short-passes : (pile : List ℕ) → 1 ≤ blocks pile → pieceCount pile ≤ length (present pile) → short pile .given ≡ false
-short-passes pile some h = rw (ne-eqb (blocks pile) 0 (λ e. omega arith), le-ltb (length (present pile)) (pieceCount pile) h)
+pub short-passes : (pile : List ℕ) → 1 ≤ blocks pile → ownPieces pile ≤ length (present pile) → short pile .given ≡ false
+short-passes pile some h = rw (ne-eqb (blocks pile) 0 (λ e. omega arith), le-ltb (length (present pile)) (ownPieces pile) h)
 
 nothing : (l : List ℕ) → length l ≡ 0 → l ≡ []
 nothing [] e = refl

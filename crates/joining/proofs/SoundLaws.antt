@@ -23,7 +23,7 @@ use Rattle.pile.specs.Lines.{tornPile, longPile, everyBlock}
 use Rattle.pile.proofs.LineLaws.{true-blocks}
 use Rattle.answer.specs.Lent.{noRoom}
 use Rattle.answer.proofs.LentLaws.{room-given}
-use Rattle.joining.specs.Pile.{ownBlock, ownDeal, pieceCount, width, pieceAt, hasPiece, placeOf, valueOf, differIn, present}
+use Rattle.joining.specs.Pile.{ownBlock, ownDeal, ownPieces, ownWidth, pieceAt, hasPiece, placeOf, valueOf, differIn, present}
 use Rattle.joining.specs.Checks.{mixedAt, mixed, conflictAt, conflict, short, wholeLines, pileLines}
 use Rattle.joining.specs.Joined.{joinLines, joining}
 use Rattle.joining.specs.Laws.{Sound, Joins}
@@ -35,7 +35,7 @@ use Rattle.joining.proofs.PassedLaws.{accepted}
 
 -- ---- from the answer to the pile
 agreeing : (pile : List ℕ) → conflictAt pile ≡ 0 → (a b : ℕ) → In pile a → In pile b → pieceAt pile a ≡ pieceAt pile b
-    → (i : ℕ) → 1 ≤ i → i ≤ width pile → valueOf pile a i ≡ valueOf pile b i
+    → (i : ℕ) → 1 ≤ i → i ≤ ownWidth pile → valueOf pile a i ≡ valueOf pile b i
 agreeing pile z a b h g q i l m = first a h .same i l m ∙ ap (λ (j : ℕ). valueOf pile (placeOf pile j) i) q ∙ sym (first b g .same i l m)
   where
     first : (c : ℕ) → In pile c → Same pile c (firstLike pile c)
@@ -55,11 +55,11 @@ place-has pile j h = (
 pub then-joins : (pile : List ℕ) (room w : ℕ) → joining pile room ≡ done w → Joins pile room w
 unfolding joining joinLines noRoom
 then-joins pile room w e =
-    let r = done-passed (pileLines pile ++ noRoom (width pile) (width pile) room ∷ []) (done (width pile)) w e in
+    let r = done-passed (pileLines pile ++ noRoom (ownWidth pile) (ownWidth pile) room ∷ []) (done (ownWidth pile)) w e in
     let s = passed-append (pileLines pile) (r .0) in
     let t = accepted pile (s .0) in
     let u = t .full .unmixed in
-    let is : done (width pile) ≡ done w = r .1 in
+    let is : done (ownWidth pile) ≡ done w = r .1 in
     record {
       sound = record {
         whole = t .whole;
@@ -70,7 +70,7 @@ then-joins pile room w e =
       };
       some = u .some;
       complete = λ j l h. let p = place-has pile j (t .full .place j l h) in (placeOf pile j, p .0, p .1);
-      fits = ltb-false room (width pile) (passed (s .1) .0);
+      fits = ltb-false room (ownWidth pile) (passed (s .1) .0);
       is = cc;
     }
 
@@ -104,9 +104,9 @@ module _ (pile : List ℕ) (s : Sound pile) where
       ∙ not-given (mixed pile) (conflict pile ∷ short pile ∷ []) end (found-none no-mixed)
       ∙ not-given (conflict pile) (short pile ∷ []) end (found-none no-conflict)
 
-  pub sound-then : (room : ℕ) → joining pile room ≡ firstFail (short pile ∷ []) (firstFail (noRoom (width pile) (width pile) room ∷ []) (done (width pile)))
+  pub sound-then : (room : ℕ) → joining pile room ≡ firstFail (short pile ∷ []) (firstFail (noRoom (ownWidth pile) (ownWidth pile) room ∷ []) (done (ownWidth pile)))
   unfolding joining joinLines
-  sound-then room = append-lines (pileLines pile) (noRoom (width pile) (width pile) room ∷ []) (done (width pile)) ∙ sound-short (firstFail (noRoom (width pile) (width pile) room ∷ []) (done (width pile)))
+  sound-then room = append-lines (pileLines pile) (noRoom (ownWidth pile) (ownWidth pile) room ∷ []) (done (ownWidth pile)) ∙ sound-short (firstFail (noRoom (ownWidth pile) (ownWidth pile) room ∷ []) (done (ownWidth pile)))
 
 -- the place of a piece that some block has
 pub place-held : (pile : List ℕ) (j a : ℕ) → In pile a → pieceAt pile a ≡ j → 1 ≤ placeOf pile j
@@ -116,23 +116,23 @@ place-held pile j a h e = first-of (hasPiece pile j) 1 (blocks pile + 1) a (h .0
 pub joins-then : (pile : List ℕ) (room w : ℕ) → Joins pile room w → joining pile room ≡ done w
 unfolding present firstFail
 joins-then pile room w t =
-    let held : (j : ℕ) → 1 ≤ j → j ≤ pieceCount pile → 1 ≤ placeOf pile j
+    let held : (j : ℕ) → 1 ≤ j → j ≤ ownPieces pile → 1 ≤ placeOf pile j
     = λ j l m. let r = t .complete j l m in place-held pile j (r .0) (r .1) (r .2) in
-    let c : length (present pile) ≡ pieceCount pile
-    = those-full (λ j. found (placeOf pile j)) 1 (pieceCount pile) (λ j l m. found-some {a = placeOf pile j} (λ z. omega (arith, held j l (omega arith)))) in
+    let c : length (present pile) ≡ ownPieces pile
+    = those-full (λ j. found (placeOf pile j)) 1 (ownPieces pile) (λ j l m. found-some {a = placeOf pile j} (λ z. omega (arith, held j l (omega arith)))) in
     sound-then pile (t .sound) room
     ∙ not-given (short pile) [] _ (short-passes pile (t .some) (omega arith))
-    ∙ room-given (width pile) (width pile) room (done (width pile)) (t .fits)
+    ∙ room-given (ownWidth pile) (ownWidth pile) room (done (ownWidth pile)) (t .fits)
     ∙ ap done (t .is)
 
-pub lacks-then : (pile : List ℕ) (room j : ℕ) → Sound pile → 1 ≤ blocks pile → 1 ≤ j → j ≤ pieceCount pile → placeOf pile j ≡ 0
-    → joining pile room ≡ refused 20 (length (present pile)) (pieceCount pile)
-lacks-then pile room j t b l h z = sound-then pile t room ∙ given (short pile) [] _ (short-given pile (less (ℕ-discrete (length (present pile)) (pieceCount pile))))
+pub lacks-then : (pile : List ℕ) (room j : ℕ) → Sound pile → 1 ≤ blocks pile → 1 ≤ j → j ≤ ownPieces pile → placeOf pile j ≡ 0
+    → joining pile room ≡ refused 20 (length (present pile)) (ownPieces pile)
+lacks-then pile room j t b l h z = sound-then pile t room ∙ given (short pile) [] _ (short-given pile (less (ℕ-discrete (length (present pile)) (ownPieces pile))))
   where
-    less : Dec (length (present pile) ≡ pieceCount pile) → length (present pile) < pieceCount pile
-    less (yes e) = unfold present in absurd (never (found-none z) (those-all (λ i. found (placeOf pile i)) 1 (pieceCount pile) e j l (omega arith)))
-    less (no f) = unfold present in omega (arith, those-few (λ i. found (placeOf pile i)) 1 (pieceCount pile))
+    less : Dec (length (present pile) ≡ ownPieces pile) → length (present pile) < ownPieces pile
+    less (yes e) = unfold present in absurd (never (found-none z) (those-all (λ i. found (placeOf pile i)) 1 (ownPieces pile) e j l (omega arith)))
+    less (no f) = unfold present in omega (arith, those-few (λ i. found (placeOf pile i)) 1 (ownPieces pile))
 
 pub no-blocks : (pile : List ℕ) (room : ℕ) → length pile ≡ 0 → joining pile room ≡ refused 20 0 0
 unfolding joining joinLines
-no-blocks pile room e = append-lines (pileLines pile) (noRoom (width pile) (width pile) room ∷ []) (done (width pile)) ∙ none-short pile _ e
+no-blocks pile room e = append-lines (pileLines pile) (noRoom (ownWidth pile) (ownWidth pile) room ∷ []) (done (ownWidth pile)) ∙ none-short pile _ e

@@ -11,7 +11,7 @@ use Rattle.lists.specs.Places.{firstIn, found}
 use Rattle.block.specs.Deals.{sameDeal}
 use Rattle.pile.specs.Blocks.{blocks, dealAt, firstBlock}
 use Rattle.pile.specs.Lines.{tornPile, longPile, everyBlock}
-use Rattle.joining.specs.Pile.{ownDeal, pieceCount, pieceAt, differIn, present}
+use Rattle.joining.specs.Pile.{ownDeal, ownPieces, pieceAt, differIn, present}
 
 -- 18 MIXED: the first block that is not of the pile's own deal, or 0
 unfoldable pub mixedAt : List ℕ → ℕ
@@ -37,7 +37,7 @@ conflict pile = line Conflict (found (conflictAt pile)) (conflictAt pile) (contr
 
 -- 20 SHORT: no block at all, or fewer pieces than k; how many there are, and k
 abbrev pub short : List ℕ → Line
-short pile = line Short (eqb (blocks pile) 0 || ltb (length (present pile)) (pieceCount pile)) (length (present pile)) (pieceCount pile)
+short pile = line Short (eqb (blocks pile) 0 || ltb (length (present pile)) (ownPieces pile)) (length (present pile)) (ownPieces pile)
 
 -- the lines over the whole pile, after those of its blocks
 abbrev pub wholeLines : List ℕ → List Line

@@ -10,7 +10,7 @@ use Rattle.lists.specs.Places.{found}
 use Rattle.prime.specs.Prime.{p, Below}
 use Rattle.field.specs.Poly.{value, One}
 use Rattle.pile.specs.Blocks.{blocks, word, dealAt, firstBlock, TrueBlocks, In}
-use Rattle.joining.specs.Pile.{pieceCount, width, pieceAt, placeOf, valueOf, differIn, present}
+use Rattle.joining.specs.Pile.{ownPieces, ownWidth, pieceAt, placeOf, valueOf, differIn, present}
 use Rattle.joining.specs.Checks.{contradictedBy, conflictAt}
 use Rattle.joining.specs.Joined.{joining, joinedInto}
 use Rattle.joining.specs.Secret.{secret}
@@ -21,15 +21,15 @@ pub record Sound (pile : List ℕ) : Type 0 where
   pub few : blocks pile ≤ 560
   pub blocks-true : TrueBlocks pile
   pub one-deal : (a b : ℕ) → In pile a → In pile b → dealAt pile a ≡ dealAt pile b
-  pub agree : (a b : ℕ) → In pile a → In pile b → pieceAt pile a ≡ pieceAt pile b → (i : ℕ) → 1 ≤ i → i ≤ width pile → valueOf pile a i ≡ valueOf pile b i
+  pub agree : (a b : ℕ) → In pile a → In pile b → pieceAt pile a ≡ pieceAt pile b → (i : ℕ) → 1 ≤ i → i ≤ ownWidth pile → valueOf pile a i ≡ valueOf pile b i
 
 -- what joins: a sound pile with a block for each piece 1 to k, and room for w words
 pub record Joins (pile : List ℕ) (room w : ℕ) : Type 0 where
   pub sound : Sound pile
   pub some : 1 ≤ blocks pile
-  pub complete : (j : ℕ) → 1 ≤ j → j ≤ pieceCount pile → (a : ℕ) × In pile a × (pieceAt pile a ≡ j)
-  pub fits : width pile ≤ room
-  pub is : width pile ≡ w
+  pub complete : (j : ℕ) → 1 ≤ j → j ≤ ownPieces pile → (a : ℕ) × In pile a × (pieceAt pile a ≡ j)
+  pub fits : ownWidth pile ≤ room
+  pub is : ownWidth pile ≡ w
 
 -- Joining gives w exactly where the pile joins.
 abbrev pub JoinsThen : Type 0
@@ -40,8 +40,8 @@ ThenJoins = (pile : List ℕ) (room w : ℕ) → joining pile room ≡ done w �
 
 -- "some piece of 1 to k missing", "distinct pieces present, k": a sound pile that lacks a piece is SHORT.
 abbrev pub LacksThen : Type 0
-LacksThen = (pile : List ℕ) (room j : ℕ) → Sound pile → 1 ≤ blocks pile → 1 ≤ j → j ≤ pieceCount pile → placeOf pile j ≡ 0
-    → joining pile room ≡ refused 20 (length (present pile)) (pieceCount pile)
+LacksThen = (pile : List ℕ) (room j : ℕ) → Sound pile → 1 ≤ blocks pile → 1 ≤ j → j ≤ ownPieces pile → placeOf pile j ≡ 0
+    → joining pile room ≡ refused 20 (length (present pile)) (ownPieces pile)
 
 -- "A pile of no blocks is SHORT with 0, 0."
 abbrev pub NoBlocks : Type 0
@@ -56,7 +56,7 @@ ConflictWithFirst = (pile : List ℕ) → conflictAt pile ≢ 0 → contradicted
 
 -- cs are the coefficients of a polynomial of degree below k through (j, value i of piece j), for every block of the pile
 pub record Fits (pile : List ℕ) (i : ℕ) (cs : List ℕ) : Type 0 where
-  pub degree : length cs ≡ pieceCount pile
+  pub degree : length cs ≡ ownPieces pile
   pub below : Below cs
   pub meets : (a : ℕ) → In pile a → valueOf pile a i ≡ value cs (pieceAt pile a) % p
 

@@ -18,11 +18,11 @@ abbrev pub ownDeal : List ℕ → DealWords
 ownDeal pile = dealAt pile (ownBlock pile)
 
 -- k and w, as the pile's own deal says
-abbrev pub pieceCount : List ℕ → ℕ
-pieceCount pile = ownDeal pile .pieces
+abbrev pub ownPieces : List ℕ → ℕ
+ownPieces pile = ownDeal pile .pieces
 
-abbrev pub width : List ℕ → ℕ
-width pile = ownDeal pile .width
+abbrev pub ownWidth : List ℕ → ℕ
+ownWidth pile = ownDeal pile .width
 
 -- the piece of block a
 abbrev pub pieceAt : List ℕ → ℕ → ℕ
@@ -46,8 +46,8 @@ valueAt pile j i = valueOf pile (placeOf pile j) i
 
 -- the first of the values 1 to w in which blocks a and b differ, or 0
 unfoldable pub differIn : List ℕ → ℕ → ℕ → ℕ
-differIn pile a b = firstIn (λ i. not (eqb (valueOf pile a i) (valueOf pile b i))) 1 (width pile + 1)
+differIn pile a b = firstIn (λ i. not (eqb (valueOf pile a i) (valueOf pile b i))) 1 (ownWidth pile + 1)
 
 -- the pieces of 1 to k that some block has
 unfoldable pub present : List ℕ → List ℕ
-present pile = those (λ j. found (placeOf pile j)) 1 (pieceCount pile)
+present pile = those (λ j. found (placeOf pile j)) 1 (ownPieces pile)

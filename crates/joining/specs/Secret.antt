@@ -2,7 +2,7 @@
 use Prim.Native.Nat.{ℕ}
 use mathlib.Core.List.{List}
 use Rattle.field.specs.Secret.{secretOf}
-use Rattle.joining.specs.Pile.{pieceCount, width, valueAt}
+use Rattle.joining.specs.Pile.{ownPieces, ownWidth, valueAt}
 
 abbrev pub secret : List ℕ → List ℕ
-secret pile = secretOf (valueAt pile) (pieceCount pile) (width pile)
+secret pile = secretOf (valueAt pile) (ownPieces pile) (ownWidth pile)

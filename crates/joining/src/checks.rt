@@ -11,9 +11,9 @@ ghost use Rattle.answer.specs.Outcome.{outcome, done};
 ghost use Rattle.answer.specs.Checks.{firstFail};
 ghost use Rattle.lists.specs.Places.{those};
 ghost use Rattle.pile.specs.Blocks.{blocks, In, TrueBlocks};
-ghost use Rattle.joining.specs.Pile.{ownDeal, width, placeOf, differIn};
+ghost use Rattle.joining.specs.Pile.{ownDeal, ownWidth, placeOf, differIn};
 ghost use Rattle.joining.specs.Checks.{mixedAt, conflict, wholeLines, pileLines};
-ghost use Rattle.joining.specs.True.{Unmixed, marked};
+ghost use Rattle.joining.specs.True.{Unmixed, placed};
 
 // The pile's own deal.
 pub fn own_deal(pile: &[u8]) -> DealWords
@@ -63,7 +63,7 @@ pub fn places(pile: &[u8]) -> [usize; 70]
 // The first of the values 1 to w in which blocks a and b differ, or 0.
 fn differ_in(pile: &[u8], w: usize, a: usize, b: usize) -> usize
     requires { ⌜ Unmixed (now pile) ⌝ }
-    requires { ⌜ w ≡ width (now pile) ⌝ }
+    requires { ⌜ w ≡ ownWidth (now pile) ⌝ }
     requires { ⌜ In (now pile) a × In (now pile) b ⌝ }
     ensures { λ r. ⌜ r ≡ differIn (now (pile .entry)) a b ⌝ }
 {
@@ -81,7 +81,7 @@ fn differ_in(pile: &[u8], w: usize, a: usize, b: usize) -> usize
 // Each block against the first block of its piece: that settles CONFLICT over all pairs.
 fn check_conflict(pile: &[u8], w: usize, table: &[usize; 70]) -> Answer
     requires { ⌜ Unmixed (now pile) ⌝ }
-    requires { ⌜ w ≡ width (now pile) ⌝ }
+    requires { ⌜ w ≡ ownWidth (now pile) ⌝ }
     requires { ⌜ now table ≡ run (placeOf (now pile)) 1 70 ⌝ }
     ensures { λ r. ⌜ outcome r ≡ firstFail (conflict (now (pile .entry)) ∷ []) (done 0) ⌝ }
 {
@@ -101,7 +101,7 @@ fn check_conflict(pile: &[u8], w: usize, table: &[usize; 70]) -> Answer
 // How many of the pieces 1 to k are present.
 fn count_present(table: &[usize; 70], k: usize) -> usize
     requires { ⌜ k ≤ 70 ⌝ }
-    ensures { λ r. ⌜ r ≡ length (those (marked (now (table .entry))) 1 k) ⌝ }
+    ensures { λ r. ⌜ r ≡ length (those (placed (now (table .entry))) 1 k) ⌝ }
 {
     let mut found: usize = 0;
     let mut j: usize = 0;

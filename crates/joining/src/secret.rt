@@ -8,7 +8,7 @@ ghost use Rattle.lists.specs.Over.{over};
 ghost use Rattle.field.specs.Joined.{joined};
 ghost use Rattle.field.specs.Lagrange.{Weights};
 ghost use Rattle.field.specs.Secret.{column};
-ghost use Rattle.joining.specs.Pile.{pieceCount, width, placeOf, valueAt};
+ghost use Rattle.joining.specs.Pile.{ownPieces, ownWidth, placeOf, valueAt};
 ghost use Rattle.joining.specs.Secret.{secret};
 ghost use Rattle.joining.specs.True.{Full};
 
@@ -16,8 +16,8 @@ ghost use Rattle.joining.specs.True.{Full};
 fn write_column(pile: &[u8], table: &[usize; 70], k: usize, i: usize, values: &mut [u16])
     requires { ⌜ Full (now pile) ⌝ }
     requires { ⌜ now table ≡ run (placeOf (now pile)) 1 70 ⌝ }
-    requires { ⌜ k ≡ pieceCount (now pile) ⌝ }
-    requires { ⌜ (1 ≤ i) × (i ≤ width (now pile)) ⌝ }
+    requires { ⌜ k ≡ ownPieces (now pile) ⌝ }
+    requires { ⌜ (1 ≤ i) × (i ≤ ownWidth (now pile)) ⌝ }
     requires { ⌜ k ≤ length (now values) ⌝ }
     ensures { λ _. ⌜ now (values .exit) ≡ over (column (valueAt (now (pile .entry))) k i) (now (values .entry)) ⌝ }
 {
@@ -39,9 +39,9 @@ fn secret_word(
 ) -> u16
     requires { ⌜ Full (now pile) ⌝ }
     requires { ⌜ now table ≡ run (placeOf (now pile)) 1 70 ⌝ }
-    requires { ⌜ k ≡ pieceCount (now pile) ⌝ }
+    requires { ⌜ k ≡ ownPieces (now pile) ⌝ }
     requires { ⌜ Weights k (now weights) ⌝ }
-    requires { ⌜ (1 ≤ i) × (i ≤ width (now pile)) ⌝ }
+    requires { ⌜ (1 ≤ i) × (i ≤ ownWidth (now pile)) ⌝ }
     requires { ⌜ k ≤ length (now values) ⌝ }
     ensures says { λ r. ⌜ r ≡ joined (column (valueAt (now (pile .entry))) k i) ⌝ }
     ensures leaves { λ r. ⌜ now (values .exit) ≡ over (column (valueAt (now (pile .entry))) k i) (now (values .entry)) ⌝ }
@@ -53,7 +53,7 @@ fn secret_word(
 // Writes the secret over the front of the output.
 pub fn write_secret(pile: &[u8], k: usize, w: usize, weights: &[u16; 70], out: &mut [u16])
     requires { ⌜ Full (now pile) ⌝ }
-    requires { ⌜ (k ≡ pieceCount (now pile)) × (w ≡ width (now pile)) ⌝ }
+    requires { ⌜ (k ≡ ownPieces (now pile)) × (w ≡ ownWidth (now pile)) ⌝ }
     requires { ⌜ Weights k (now weights) ⌝ }
     requires { ⌜ w ≤ length (now out) ⌝ }
     ensures { λ _. ⌜ now (out .exit) ≡ over (secret (now (pile .entry))) (now (out .entry)) ⌝ }

@@ -16,17 +16,17 @@ use Rattle.planning.specs.declared.table.Plan.{Plan}
 use Rattle.planning.specs.Groups.{groups, pieceCount, rowsOf}
 use Rattle.planning.specs.Policy.{Policy}
 use Rattle.planning.specs.Planned.{clash, wide, listLines, planLines, planned, rowsFor, plannedRows}
-use Rattle.planning.specs.Flags.{filled, Filled}
+use Rattle.planning.specs.Flags.{fillSays, Filled}
 use Rattle.planning.specs.Laws.{Listed}
 use Rattle.planning.proofs.ListedLaws.{listed}
 
 -- ---- a table filled
-over : (maximals : List ℕ) → 70 < length maximals → filled maximals ≡ refused (number Wide) 0 0
-unfolding filled wide
+over : (maximals : List ℕ) → 70 < length maximals → fillSays maximals ≡ refused (number Wide) 0 0
+unfolding fillSays wide
 over maximals h = given (wide maximals) [] _ (lt-ltb _ _ h)
 
-fits : (maximals : List ℕ) → length maximals ≤ 70 → filled maximals ≡ done (length maximals)
-unfolding filled wide firstFail
+fits : (maximals : List ℕ) → length maximals ≤ 70 → fillSays maximals ≡ done (length maximals)
+unfolding fillSays wide firstFail
 fits maximals h = rw (le-ltb _ _ h)
 
 module _ {maximals : List ℕ} {p : Plan} where
@@ -51,7 +51,7 @@ module _ (p : Policy) where
   -- refusals 1 to 5 and CLASH have not been given
   pub record Clear : Type 0 where
     pub listed-so : Listed p
-    pub then : planned p ≡ filled (groups (p .people) (p .required))
+    pub then : planned p ≡ fillSays (groups (p .people) (p .required))
 
   pub lists-refuse : {x : Answer} {r : Refusal} → outcome x ≡ firstFail (listLines p) (done 0) → x ≡ Refused r
       → outcome (Refused r) ≡ planned p
@@ -66,7 +66,7 @@ module _ (p : Policy) where
 
   pub clear : {x y : Answer} {u v : ℕ} → outcome x ≡ firstFail (listLines p) (done 0) → x ≡ Done u
       → outcome y ≡ firstFail (clash (p .required) (p .forbidden) ∷ []) (done 0) → y ≡ Done v → Clear
-  unfolding planned planLines filled
+  unfolding planned planLines fillSays
   clear {u = u} says q says′ q′ = record {
     listed-so = listed p (done-passed (listLines p) (done 0) u (sym says ∙ ap outcome q) .0);
     then = goes-on (listLines p) says (afterLists p) (end p) q ∙ goes-on (clash (p .required) (p .forbidden) ∷ []) says′ (wide (groups (p .people) (p .required)) ∷ []) (end p) q′;

@@ -20,10 +20,10 @@ pub record Flags (auth : ℕ → Bool) (c : ℕ) (f : List Bool) : Type 0 where
   pub right : (g : ℕ) → g < c → flagged f g ≡ auth g
 
 -- the answer that these maximal groups give, where every check before WIDE passes
-unfoldable pub filled : List ℕ → Outcome ℕ
-filled maximals = firstFail (wide maximals ∷ []) (done (length maximals))
+unfoldable pub fillSays : List ℕ → Outcome ℕ
+fillSays maximals = firstFail (wide maximals ∷ []) (done (length maximals))
 
 -- the plan of these maximal groups
 pub record Filled (maximals : List ℕ) (p : Plan) : Type 0 where
-  pub says : outcome (p .answer) ≡ filled maximals
-  pub table : p .rows ≡ rowsFor (filled maximals) maximals
+  pub says : outcome (p .answer) ≡ fillSays maximals
+  pub table : p .rows ≡ rowsFor (fillSays maximals) maximals

@@ -12,7 +12,7 @@ use lib.ListN.{length, take, drop, getD, length-drop, drop-of-length-le}
 use lib.Seq.{drop-cons, drop-drop}
 use Rattle.policy.specs.declared.Found.{Found}
 use Rattle.policy.specs.declared.Found.the-variants.{Number, Nothing}
-use Rattle.policy.specs.declared.Said.the-variants.{Bad}
+use Rattle.policy.specs.declared.Told.the-variants.{Bad}
 use Rattle.policy.specs.Policy.{inFront, lines, lineLength, begins, peopleWord, oneDigit, peopleIn, needWord, barWord, members, needs, bars, lineSays}
 
 -- ---- what stands at a place

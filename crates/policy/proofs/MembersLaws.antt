@@ -17,7 +17,7 @@ use Rattle.print.specs.Decimal.{digit, digits}
 use Rattle.print.specs.Lines.{spaced, spacedAll, feed}
 use Rattle.policy.specs.declared.Found.the-variants.{Number, Nothing}
 use Rattle.policy.specs.Policy.{pickFound, members}
-use Rattle.policy.specs.Laws.{peopleOf}
+use Rattle.policy.specs.Laws.{membersOf}
 use Rattle.policy.proofs.WritingLaws.{below-each}
 
 -- ---- those of the set above c, still to come
@@ -121,6 +121,6 @@ shaped (b ∷ []) c s m h k q = shaped-end (eqb b 10) c s m b refl h k q
 shaped (b ∷ (d ∷ rest)) c s m h k q =
     shaped-more (eqb b 32 && ltb (48 + c) d && leb d 57) c s m b d rest refl k (λ e i l n p g. shaped rest e (s + 2 ^ (e - 1)) m l p g) q
 
-pub members-shape : (l : List ℕ) (m : ℕ) → members 48 0 l ≡ Number m → (m < 512) × (l ≡ spacedAll (peopleOf m) ++ feed)
-unfolding peopleOf tail
+pub members-shape : (l : List ℕ) (m : ℕ) → members 48 0 l ≡ Number m → (m < 512) × (l ≡ spacedAll (membersOf m) ++ feed)
+unfolding membersOf tail
 members-shape l m h = let r = shaped l 0 0 m (omega arith) (omega arith) h in (r .0, r .2)

@@ -15,8 +15,8 @@ use Rattle.lists.proofs.FirstLaws.{first-hit, first-miss, first-none}
 use Rattle.planning.specs.Policy.{policyOf}
 use Rattle.policy.specs.declared.Sets.{Sets}
 use Rattle.policy.specs.declared.Found.the-variants.{Number}
-use Rattle.policy.specs.declared.Said.{Said}
-use Rattle.policy.specs.declared.Said.the-variants.{Need, Bar, Bad}
+use Rattle.policy.specs.declared.Told.{Told}
+use Rattle.policy.specs.declared.Told.the-variants.{Need, Bar, Bad}
 use Rattle.policy.specs.Policy.{lines, lineLength, lineOf, peopleIn, lineSays, isNothing, isBad, addNeed, addBar, requiredIn, forbiddenIn}
 use Rattle.policy.specs.Policy.{badAt, badLine, policyIn, readPolicy, Keeps}
 use Rattle.print.proofs.DecimalLaws.{below}
@@ -102,7 +102,7 @@ module _ {text : List ℕ} {required forbidden : Sets} {at line : ℕ} (g : Goin
     from-here = g .rest ∙ lines-at text at h
 
     -- a line that is not bad, with its set
-    going-on : {required′ forbidden′ : Sets} (x : Said) (needs bars : List ℕ) → lineSays (lineAt text at) ≡ x → isBad x ≡ false
+    going-on : {required′ forbidden′ : Sets} (x : Told) (needs bars : List ℕ) → lineSays (lineAt text at) ≡ x → isBad x ≡ false
         → Keeps needs required′ → Keeps bars forbidden′
         → ((sets : List ℕ) → needs ++ sets ≡ g .needs ++ addNeed x sets) → ((sets : List ℕ) → bars ++ sets ≡ g .bars ++ addBar x sets)
         → Going text required′ forbidden′ (behind text at) (line + 1)

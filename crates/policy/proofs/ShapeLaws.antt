@@ -17,9 +17,9 @@ use Rattle.print.specs.Decimal.{digit}
 use Rattle.print.specs.Lines.{feed}
 use Rattle.policy.specs.declared.Found.{Found}
 use Rattle.policy.specs.declared.Found.the-variants.{Number, Nothing}
-use Rattle.policy.specs.declared.Said.the-variants.{Bad}
+use Rattle.policy.specs.declared.Told.the-variants.{Bad}
 use Rattle.planning.specs.Policy.{Policy}
-use Rattle.policy.specs.Policy.{inFront, lines, begins, peopleWord, pickFound, oneDigit, peopleIn, needWord, barWord, members, pickSaid, needs, bars, lineSays}
+use Rattle.policy.specs.Policy.{inFront, lines, begins, peopleWord, pickFound, oneDigit, peopleIn, needWord, barWord, members, pickTold, needs, bars, lineSays}
 use Rattle.policy.specs.Policy.{isNothing, numberIn, isBad, addNeed, addBar, requiredIn, forbiddenIn, badAt, badLine, policyIn, readPolicy}
 use Rattle.policy.specs.Laws.{Entry, need, bar, setOf, writtenLine, writtenLines, peopleLine, writtenText, requiredAmong, forbiddenAmong, Named, Written, EntryLine}
 use Rattle.policy.proofs.LinesLaws.{says-need, says-bar}
@@ -66,7 +66,7 @@ pub record Told (l : List ℕ) : Type 0 where
   pub says : lineSays l ≡ saidBy (line .entry)
 
 told-by : (l : List ℕ) (t u : Bool) (f g : Found) → begins needWord l ≡ t → begins barWord l ≡ u
-    → members 48 0 (drop 4 l) ≡ f → members 48 0 (drop 3 l) ≡ g → isBad (pickSaid t (needs f) (pickSaid u (bars g) Bad)) ≡ false → Told l
+    → members 48 0 (drop 4 l) ≡ f → members 48 0 (drop 3 l) ≡ g → isBad (pickTold t (needs f) (pickTold u (bars g) Bad)) ≡ false → Told l
 unfolding writtenLine
 told-by l true u (Number s) g p q r v h =
     let m = members-shape (drop 4 l) s r in

@@ -18,13 +18,13 @@ use Rattle.print.specs.Decimal.{digits}
 use Rattle.print.specs.Lines.{spaced, spacedAll, feed}
 use Rattle.policy.specs.declared.Found.{Found}
 use Rattle.policy.specs.declared.Found.the-variants.{Number, Nothing}
-use Rattle.policy.specs.declared.Said.{Said}
-use Rattle.policy.specs.declared.Said.the-variants.{Need, Bar}
+use Rattle.policy.specs.declared.Told.{Told}
+use Rattle.policy.specs.declared.Told.the-variants.{Need, Bar}
 use Rattle.planning.specs.Policy.{policyOf}
 use Rattle.policy.specs.Policy.{inFront, lines, begins, oneDigit, peopleIn, members, needs, bars, lineSays}
 use Rattle.policy.specs.Policy.{isNothing, isBad, addNeed, addBar, requiredIn, forbiddenIn, badLine, policyIn, readPolicy}
 use Rattle.policy.proofs.BadLaws.{text-good, none-bad}
-use Rattle.policy.specs.Laws.{Entry, need, bar, setOf, peopleOf, writtenLine, writtenLines, peopleLine, writtenText, requiredAmong, forbiddenAmong, Named}
+use Rattle.policy.specs.Laws.{Entry, need, bar, setOf, membersOf, writtenLine, writtenLines, peopleLine, writtenText, requiredAmong, forbiddenAmong, Named}
 
 -- ---- one line
 empty : List ℕ → Bool
@@ -70,13 +70,13 @@ all-first = refl
 
 -- what stands behind the word of the line of a set
 abbrev body : ℕ → List ℕ
-body s = spacedAll (peopleOf s) ++ feed
+body s = spacedAll (membersOf s) ++ feed
 
 rightSet : ℕ → Bool
 rightSet s = isLine (body s) && isNumber s (members 48 0 (body s))
 
 all-sets : each 512 (λ i. rightSet (i - 1)) ≡ true
-unfolding rightSet isLine empty isNumber each members spacedAll spaced digits peopleOf those member
+unfolding rightSet isLine empty isNumber each members spacedAll spaced digits membersOf those member
 all-sets = refl
 
 -- the test of every number below n
@@ -98,7 +98,7 @@ set-right s h =
     (r .0, number-is s (members 48 0 (body s)) (r .1))
 
 -- ---- the line of an entry
-abbrev pub saidBy : Entry → Said
+abbrev pub saidBy : Entry → Told
 saidBy (need s) = Need s
 saidBy (bar s) = Bar s
 

@@ -31,12 +31,12 @@ wordOf (need s) = needWord
 wordOf (bar s) = barWord
 
 -- the people of a set, in rising number
-unfoldable pub peopleOf : ℕ → List ℕ
-peopleOf s = those (λ i. member i s) 1 9
+unfoldable pub membersOf : ℕ → List ℕ
+membersOf s = those (λ i. member i s) 1 9
 
 -- the line of an entry: its word and the people of its set, a space before each
 unfoldable pub writtenLine : Entry → List ℕ
-writtenLine e = wordOf e ++ spacedAll (peopleOf (setOf e)) ++ feed
+writtenLine e = wordOf e ++ spacedAll (membersOf (setOf e)) ++ feed
 
 -- the lines of entries, one behind the other
 unfoldable pub writtenLines : List Entry → List ℕ

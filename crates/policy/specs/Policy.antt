@@ -14,8 +14,8 @@ use Rattle.planning.specs.Sets.{worth}
 use Rattle.planning.specs.Policy.{Policy, policyOf}
 use Rattle.policy.specs.declared.Found.{Found}
 use Rattle.policy.specs.declared.Found.the-variants.{Number, Nothing}
-use Rattle.policy.specs.declared.Said.{Said}
-use Rattle.policy.specs.declared.Said.the-variants.{Need, Bar, Bad}
+use Rattle.policy.specs.declared.Told.{Told}
+use Rattle.policy.specs.declared.Told.the-variants.{Need, Bar, Bad}
 use Rattle.policy.specs.declared.Sets.{Sets}
 use Rattle.policy.specs.declared.PolicyText.{PolicyText}
 
@@ -79,25 +79,25 @@ members last set (b ∷ []) = pickFound (eqb b 10) (Number set) Nothing
 members last set (b ∷ (d ∷ rest)) = pickFound (eqb b 32 && ltb last d && leb d 57) (members d (set + worth (d - 48)) rest) Nothing
 
 -- one where the test holds, the other where it does not
-abbrev pub pickSaid : Bool → Said → Said → Said
-pickSaid true x y = x
-pickSaid false x y = y
+abbrev pub pickTold : Bool → Told → Told → Told
+pickTold true x y = x
+pickTold false x y = y
 
 -- a required set, where one was found
-abbrev pub needs : Found → Said
+abbrev pub needs : Found → Told
 needs (Number s) = Need s
 needs Nothing = Bad
 
 -- a forbidden set, where one was found
-abbrev pub bars : Found → Said
+abbrev pub bars : Found → Told
 bars (Number s) = Bar s
 bars Nothing = Bad
 
 -- "then lines `need` or `bar`": what such a line says
-unfoldable pub lineSays : List ℕ → Said
+unfoldable pub lineSays : List ℕ → Told
 lineSays line =
-    pickSaid (begins needWord line) (needs (members 48 0 (drop 4 line)))
-    (pickSaid (begins barWord line) (bars (members 48 0 (drop 3 line))) Bad)
+    pickTold (begins needWord line) (needs (members 48 0 (drop 4 line)))
+    (pickTold (begins barWord line) (bars (members 48 0 (drop 3 line))) Bad)
 
 -- ---- the text
 -- no number was found
@@ -111,19 +111,19 @@ numberIn (Number n) = n
 numberIn Nothing = 0
 
 -- the line is bad
-abbrev pub isBad : Said → Bool
+abbrev pub isBad : Told → Bool
 isBad (Need s) = false
 isBad (Bar s) = false
 isBad Bad = true
 
 -- a line `need` adds its set in front of the others
-abbrev pub addNeed : Said → List ℕ → List ℕ
+abbrev pub addNeed : Told → List ℕ → List ℕ
 addNeed (Need s) sets = s ∷ sets
 addNeed (Bar s) sets = sets
 addNeed Bad sets = sets
 
 -- a line `bar` adds its set in front of the others
-abbrev pub addBar : Said → List ℕ → List ℕ
+abbrev pub addBar : Told → List ℕ → List ℕ
 addBar (Need s) sets = sets
 addBar (Bar s) sets = s ∷ sets
 addBar Bad sets = sets

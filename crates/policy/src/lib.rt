@@ -17,7 +17,7 @@ pub enum Found {
 }
 
 // What a line behind the first says: a required set, a forbidden set, or nothing that is a policy's.
-pub enum Said {
+pub enum Told {
     Need(u16),
     Bar(u16),
     Bad,
@@ -132,21 +132,21 @@ fn read_people(line: &[u8]) -> Found
 }
 
 // What a line behind the first says.
-fn read_line(line: &[u8]) -> Said
+fn read_line(line: &[u8]) -> Told
     ensures { λ r. ⌜ r ≡ lineSays (now (line .entry)) ⌝ }
 {
     if begins(b"need", line) {
         match read_members(line, 4) {
-            Found::Number(set) => Said::Need(set),
-            Found::Nothing => Said::Bad,
+            Found::Number(set) => Told::Need(set),
+            Found::Nothing => Told::Bad,
         }
     } else if begins(b"bar", line) {
         match read_members(line, 3) {
-            Found::Number(set) => Said::Bar(set),
-            Found::Nothing => Said::Bad,
+            Found::Number(set) => Told::Bar(set),
+            Found::Nothing => Told::Bad,
         }
     } else {
-        Said::Bad
+        Told::Bad
     }
 }
 
@@ -201,17 +201,17 @@ fn read_sets(text: &[u8], start: usize, people: usize) -> PolicyText
     while at < text.len() {
         let end = line_end(text, at);
         match read_line(&text[at..end]) {
-            Said::Need(set) => {
+            Told::Need(set) => {
                 required = keep(required, set);
                 at = end;
                 line += 1;
             }
-            Said::Bar(set) => {
+            Told::Bar(set) => {
                 forbidden = keep(forbidden, set);
                 at = end;
                 line += 1;
             }
-            Said::Bad => {
+            Told::Bad => {
                 return unreadable(line);
             }
         }

@@ -11,7 +11,7 @@ use borrow.Author.Tests.{eq-eqb, ne-eqb}
 use Rattle.answer.specs.Outcome.{Outcome, done, refused}
 use Rattle.answer.specs.Checks.{firstFail}
 use Rattle.answer.proofs.CheckLaws.{given, not-given, append-lines, done-passed, passed-done, same-refusal}
-use Rattle.block.specs.Layout.{headerOf}
+use Rattle.block.specs.Layout.{frontWords}
 use Rattle.block.specs.Open.{blockLines}
 use Rattle.pile.specs.Blocks.{blocks, restFrom}
 use Rattle.pile.specs.Lines.{tornPile, linesFrom, everyBlock}
@@ -67,7 +67,7 @@ unfolding openingAt
 ahead-on pile n {ws} t e =
     let h = head-at pile n e in
     let b = restFrom pile (n + 1) in
-    let p = done-passed (blockLines b (n + 1)) (done (headerOf b)) ws (h .1) .0 in
+    let p = done-passed (blockLines b (n + 1)) (done (frontWords b)) ws (h .1) .0 in
     rw (after-block pile n (h .0)) (record {
       within = omega (arith, h .0);
       lines = t .lines ∙ turn pile n _ (h .0) ∙ passed-done (blockLines b (n + 1)) _ p;
@@ -105,8 +105,8 @@ refused-at pile n m a b t e = go (decLe (n + 1) (blocks pile)) (decLe (length pi
     go (yes h) d =
         let r = restFrom pile (n + 1) in
         let f : told (refused m a b) ≡ told (openingAt pile (n + 1)) = e ∙ seeing-block pile n (omega arith) in
-        let g : firstFail (blockLines r (n + 1)) (done (headerOf r)) ≡ refused m a b = cc in
-        sym (t .lines ∙ turn pile n _ (omega arith) ∙ same-refusal (blockLines r (n + 1)) (headerOf r) _ m a b g)
+        let g : firstFail (blockLines r (n + 1)) (done (frontWords r)) ≡ refused m a b = cc in
+        sym (t .lines ∙ turn pile n _ (omega arith) ∙ same-refusal (blockLines r (n + 1)) (frontWords r) _ m a b g)
     go (no f) (yes g) = not-ended (e ∙ seeing-ended pile n g)
     go (no f) (no g) =
         let x : told (refused m a b) ≡ told (refused 13 0 0) = e ∙ seeing-torn pile n (omega arith) (omega arith) in

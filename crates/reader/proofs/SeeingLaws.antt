@@ -10,7 +10,7 @@ use lib.Dec.{leb}
 use borrow.Author.Tests.{le-leb, lt-leb}
 use Rattle.answer.specs.Outcome.{Outcome, done, refused}
 use Rattle.answer.specs.Checks.{pick, firstFail}
-use Rattle.block.specs.Layout.{headerOf, firstWrong}
+use Rattle.block.specs.Layout.{frontWords, firstWrong}
 use Rattle.block.specs.Open.{blockLines, opening, unread, check, header, valueBytes, valueStart}
 use Rattle.block.proofs.OpenLaws.{opening-block}
 use Rattle.pile.specs.Blocks.{blocks, restFrom}
@@ -42,7 +42,7 @@ counted-pick : (x : Bool) (m a b : ℕ) (o o′ : Outcome (List ℕ)) → counte
 counted-pick true m a b o o′ e = refl
 counted-pick false m a b o o′ e = e
 
-pub counted-lines : (b : List ℕ) (a : ℕ) → counted a (firstFail (blockLines b 1) (done (headerOf b))) ≡ firstFail (blockLines b a) (done (headerOf b))
+pub counted-lines : (b : List ℕ) (a : ℕ) → counted a (firstFail (blockLines b 1) (done (frontWords b))) ≡ firstFail (blockLines b a) (done (frontWords b))
 unfolding firstFail
 counted-lines b a =
     counted-pick (unread b 1 .given) 15 a 0 _ _

@@ -9,7 +9,7 @@ use lib.Dec.{leb}
 use denote.Ref.{RefT, now}
 use Rattle.answer.specs.Outcome.{Outcome, done, refused, number}
 use Rattle.answer.specs.Checks.{firstFail}
-use Rattle.block.specs.Layout.{headerOf}
+use Rattle.block.specs.Layout.{frontWords}
 use Rattle.block.specs.Open.{blockLines, valueBytes, valueStart, wordsOf}
 use Rattle.pile.specs.Blocks.{blocks, restFrom}
 use Rattle.pile.specs.Lines.{everyBlock, tornPile}
@@ -34,7 +34,7 @@ byLeft rest block some none = cond (leb 512 (length rest)) block (cond (leb 1 (l
 
 -- "15, 16, 17" of block a, "with a counted in the pile", else its words 1 to 7
 unfoldable pub openingAt : List ℕ → ℕ → Outcome (List ℕ)
-openingAt pile a = firstFail (blockLines (restFrom pile a) a) (done (headerOf (restFrom pile a)))
+openingAt pile a = firstFail (blockLines (restFrom pile a) a) (done (frontWords (restFrom pile a)))
 
 -- "The reader answers so for its next block ..; With 1 to 511 bytes left it answers TORN, with none left that the pile has ended".
 -- A place past the pile's end leaves none.

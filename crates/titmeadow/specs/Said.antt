@@ -9,7 +9,7 @@ use Rattle.answer.specs.Lent.{left}
 use Rattle.planning.specs.Groups.{groups}
 use Rattle.planning.specs.Policy.{Policy}
 use Rattle.planning.specs.Planned.{planned}
-use Rattle.block.specs.Layout.{headerOf}
+use Rattle.block.specs.Layout.{frontWords}
 use Rattle.block.specs.Open.{opening}
 use Rattle.titmeadow.specs.declared.Said.{Said}
 
@@ -35,4 +35,4 @@ groupsInto p old = left (planned p) (groups (p .people) (p .required)) old
 
 -- words 1 to 7 in the seven places that were lent; refused, nothing changes
 abbrev pub headInto : List ℕ → List ℕ → List ℕ
-headInto pile old = left (opening pile) (headerOf pile) old
+headInto pile old = left (opening pile) (frontWords pile) old

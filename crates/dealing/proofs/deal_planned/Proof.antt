@@ -26,9 +26,6 @@ blocks s = length (heldIn (s .args .rows .now) (s .args .asked .holder) (s .args
 abbrev last : tie.Start → List Line
 last s = noRoom (512 * blocks s) (blocks s) (length (s .args .out .now)) ∷ []
 
-enum-told : tie.Need-enum-told
-enum-told c = search needs
-
 write-card-requires : tie.Need-write-card-requires
 write-card-requires c κs =
     let e = c .before in
@@ -57,7 +54,7 @@ deal-planned-spec =
     (λ c. search needs)
     (λ c κs. search needs)
     (λ c. search needs)
-    enum-told
+    (λ c. search needs)
     write-card-requires
     returns
     (λ c. search needs)

@@ -13,7 +13,7 @@ use Rattle.answer.proofs.LentLaws.{room-refused, room-given, result-writes, ref
 use Rattle.block.specs.declared.deal.DealWords.{DealWords}
 use Rattle.field.specs.Lagrange.{Weights}
 use Rattle.field.proofs.Laws.{weights-are}
-use Rattle.joining.specs.Pile.{width}
+use Rattle.joining.specs.Pile.{ownWidth}
 use Rattle.joining.specs.Checks.{pileLines}
 use Rattle.joining.specs.Joined.{joinLines, joining, joinedInto}
 use Rattle.joining.specs.Secret.{secret}
@@ -26,7 +26,7 @@ use Rattle.joining.proofs.join.Tie as tie
 
 -- the lines after those of the pile
 abbrev last : List ℕ → ℕ → List Line
-last pile room = noRoom (width pile) (width pile) room ∷ []
+last pile room = noRoom (ownWidth pile) (ownWidth pile) room ∷ []
 
 -- past the checks of the pile it is full, and the line of ROOM is left
 past-pile : (c : tie.After-enum-told) → Full (c .before .before .before .before .before .args .pile .now)
@@ -37,28 +37,25 @@ past-pile c =
 
 left1 : (c : tie.After-enum-told) (room : ℕ)
     → joining (c .before .before .before .before .before .args .pile .now) room
-    ≡ firstFail (last (c .before .before .before .before .before .args .pile .now) room) (done (width (c .before .before .before .before .before .args .pile .now)))
+    ≡ firstFail (last (c .before .before .before .before .before .args .pile .now) room) (done (ownWidth (c .before .before .before .before .before .args .pile .now)))
 unfolding joining joinLines
 left1 c room =
     let f = c .before .before in
     let p = f .before .before .before .args .pile .now in
-    goes-on (pileLines p) (f .check-pile .ensures) (last p room) (done (width p)) (c .enum-told .given .1)
+    goes-on (pileLines p) (f .check-pile .ensures) (last p room) (done (ownWidth p)) (c .enum-told .given .1)
 
 returns : tie.Need-returns
 unfolding joining joinLines joinedInto
 returns c =
     let f = c .before .before .before in
     let a = f .before .before .before .args in
-    let e = stops (pileLines (a .pile .now)) (f .check-pile .ensures) (last (a .pile .now) (length (a .out .now))) (done (width (a .pile .now))) (c .before .r .given .1) in
+    let e = stops (pileLines (a .pile .now)) (f .check-pile .ensures) (last (a .pile .now) (length (a .out .now))) (done (ownWidth (a .pile .now))) (c .before .r .given .1) in
     (e, sym (refusal-keeps _ _ _ _ (secret (a .pile .now)) (a .out .now) (sym e)))
-
-enum-told : tie.Need-enum-told
-enum-told c = search needs
 
 own-deal-requires : tie.Need-own-deal-requires
 own-deal-requires c κs = past-pile c .unmixed .some
 
-w-is : (c : tie.After-own-deal) → c .own-deal .result .width ≡ width (c .before .before .before .before .before .before .args .pile .now)
+w-is : (c : tie.After-own-deal) → c .own-deal .result .width ≡ ownWidth (c .before .before .before .before .before .before .args .pile .now)
 w-is c = ap (λ (d : DealWords). d .width) (c .own-deal .ensures)
 
 returns-2 : tie.Need-returns-2
@@ -69,7 +66,7 @@ returns-2 c =
     let t = o .before in
     let a = t .before .before .before .before .before .args in
     let w = w-is o in
-    let e = left1 t (length (a .out .now)) ∙ room-refused (width (a .pile .now)) _ (length (a .out .now)) _ (rw w at (i .if1 .taken)) in
+    let e = left1 t (length (a .out .now)) ∙ room-refused (ownWidth (a .pile .now)) _ (length (a .out .now)) _ (rw w at (i .if1 .taken)) in
     (c .refuse .ensures ∙ ap (λ n. refused 12 n 0) w ∙ sym e, sym (refusal-keeps _ _ _ _ (secret (a .pile .now)) (a .out .now) e))
 
 weights-requires : tie.Need-weights-requires
@@ -93,7 +90,7 @@ returns-3 c =
     let t = o .before in
     let a = t .before .before .before .before .before .args in
     let w = w-is o in
-    let e = left1 t (length (a .out .now)) ∙ room-given (width (a .pile .now)) _ (length (a .out .now)) _ (rw w at (i .if1 .left)) in
+    let e = left1 t (length (a .out .now)) ∙ room-given (ownWidth (a .pile .now)) _ (length (a .out .now)) _ (rw w at (i .if1 .left)) in
     (ap done w ∙ sym e, r .write-secret .ensures ∙ sym (result-writes _ _ (secret (a .pile .now)) (a .out .now) e))
 
 pub join-spec : {M : Type 1} → statement M
@@ -103,7 +100,7 @@ join-spec =
     (λ c κs. search needs)
     (λ c. search needs)
     returns
-    enum-told
+    (λ c. search needs)
     own-deal-requires
     (λ c. search needs)
     (λ c. search needs)

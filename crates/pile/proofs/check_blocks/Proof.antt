@@ -22,9 +22,6 @@ returns c =
     walk-stops (l .before .before .args .pile .now) (l .loop .rest .now) (l .loop .a) (c .before .before .before .before .loop-test .taken) (l .loop .inv)
     (c .before .before .before .check-block .ensures) (c .before .r .given .1)
 
-enum-told : tie.Need-enum-told Inv-loop μ-loop
-enum-told c = search needs
-
 loop-less : tie.Need-loop-less Inv-loop μ-loop
 loop-less c =
     let l = c .before .before .before .before .before in
@@ -51,7 +48,7 @@ check-blocks-spec =
     (λ c κs. search needs)
     (λ c. search needs)
     returns
-    enum-told
+    (λ c. search needs)
     (λ c. search needs)
     (λ c. search needs)
     (λ c. search needs)

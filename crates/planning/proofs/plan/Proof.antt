@@ -21,9 +21,6 @@ returns : tie.Need-returns
 returns c =
     refused-plan _ (lists-refuse _ (c .before .before .before .before .check-lists .ensures) (c .before .before .r .given .1)) (c .plan-of .ensures .0) (c .plan-of .ensures .1 ∙ empty-rows)
 
-enum-told : tie.Need-enum-told
-enum-told c = search needs
-
 returns-2 : tie.Need-returns-2
 returns-2 c =
     refused-plan _
@@ -50,7 +47,7 @@ plan-spec =
     (λ c. search needs)
     (λ c κs. search needs)
     returns
-    enum-told
+    (λ c. search needs)
     (λ c κs. search needs)
     (λ c. search needs)
     (λ c κs. search needs)

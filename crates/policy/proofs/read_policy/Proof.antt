@@ -40,9 +40,6 @@ read-sets-requires c κs =
     let p = c .before .before .before in
     (p .before .before .before .if1 .left, omega (arith, end-is (p .before .before)), said p ∙ c .before .people .given .1)
 
-enum-told : tie.Need-enum-told
-enum-told c = search needs
-
 returns-2 : tie.Need-returns-2
 returns-2 c = c .read-sets .ensures
 
@@ -64,7 +61,7 @@ read-policy-spec =
     (λ c. search needs)
     (λ c. search needs)
     read-sets-requires
-    enum-told
+    (λ c. search needs)
     (λ c κs. search needs)
     returns-2
     returns-3)

@@ -89,9 +89,6 @@ loop-again-2 c =
     (going-bar (looped r .loop .inv) (inside r) _ (sym (said r) ∙ c .before .before .set2 .given .1)
     (c .keep2 .ensures (looped r .loop .inv .bars) (looped r .loop .inv .forbidden-so-far)))
 
-enum-told : tie.Need-enum-told Inv-loop μ-loop
-enum-told c = search needs
-
 returns : tie.Need-returns Inv-loop μ-loop
 returns c =
     let r = c .before .before .before in
@@ -128,7 +125,7 @@ read-sets-spec =
     add-line-2
     loop-less-2
     loop-again-2
-    enum-told
+    (λ c. search needs)
     (λ c κs. search needs)
     returns
     returns-2)

@@ -18,9 +18,6 @@ abbrev μ-loop : tie.MeasureT-loop
 loop-holds : tie.Need-loop-holds Inv-loop μ-loop
 loop-holds c = ahead-start (now (c .before .args .pile))
 
-enum-told : tie.Need-enum-told Inv-loop μ-loop
-enum-told c = search needs
-
 loop-less : tie.Need-loop-less Inv-loop μ-loop
 loop-less c =
     let k = c .before .before in
@@ -49,7 +46,7 @@ read-all-spec =
     μ-loop
     loop-holds
     (λ c κs. search needs)
-    enum-told
+    (λ c. search needs)
     loop-less
     loop-again
     (λ c. search needs)

@@ -6,7 +6,7 @@ use Prim.Native.Nat.{ℕ}
 use Rattle.answer.specs.Outcome.{Outcome, done}
 use Rattle.lists.specs.Over.{over}
 use Rattle.answer.proofs.LentLaws.{result-writes, refusal-keeps}
-use Rattle.block.specs.Layout.{headerOf}
+use Rattle.block.specs.Layout.{frontWords}
 use Rattle.block.specs.Open.{opening, opened, wordsOf}
 use Rattle.block.proofs.Laws.{opens-true}
 use Rattle.titmeadow.specs.Said.{said, seven}
@@ -24,7 +24,7 @@ returns c =
     let h = opens-true (a .pile .now) (wordsOf (g .0 .0)) e .1 in (
       c .said-of .ensures ∙ sym (ap (λ (x : Outcome (List ℕ)). said (seven x)) e),
       c .before .write-head .ensures ∙ ap (λ (l : List ℕ). over l (a .head .now)) h
-          ∙ sym (result-writes (opening (a .pile .now)) _ (headerOf (a .pile .now)) (a .head .now) e),
+          ∙ sym (result-writes (opening (a .pile .now)) _ (frontWords (a .pile .now)) (a .head .now) e),
     )
 
 returns-2 : tie.Need-returns-2
@@ -34,7 +34,7 @@ returns-2 c =
     let a = o .before .before .args in
     let e = sym (o .«open» .ensures) ∙ ap opened (t .before .r .given .1) in (
       c .said-of2 .ensures ∙ sym (ap (λ (x : Outcome (List ℕ)). said (seven x)) e),
-      sym (refusal-keeps (opening (a .pile .now)) _ _ _ (headerOf (a .pile .now)) (a .head .now) e),
+      sym (refusal-keeps (opening (a .pile .now)) _ _ _ (frontWords (a .pile .now)) (a .head .now) e),
     )
 
 pub titmeadow-open-spec : {M : Type 1} → statement M

@@ -25,9 +25,6 @@ returns c =
     let a = s .before .before .args in
     stops (slotLines (a .rest .now) (a .a)) (s .check-slots .ensures) (header (a .rest .now) (a .a) ∷ []) (done 0) (c .before .r .given .1)
 
-enum-told : tie.Need-enum-told
-enum-told c = search needs
-
 returns-2 : tie.Need-returns-2
 returns-2 c =
     let w = c .before .before in
@@ -45,4 +42,4 @@ returns-3 c =
 
 pub check-block-spec : {M : Type 1} → statement M
 check-block-spec =
-    tie.close (tie.spec (λ c κs. search needs) (λ c. search needs) returns enum-told (λ c κs. search needs) (λ c κs. search needs) returns-2 returns-3)
+    tie.close (tie.spec (λ c κs. search needs) (λ c. search needs) returns (λ c. search needs) (λ c κs. search needs) (λ c κs. search needs) returns-2 returns-3)

@@ -8,9 +8,6 @@ use Rattle.block.proofs.reading.open.Tie as tie
 returns : tie.Need-returns
 returns c = sym (opening-torn _ (c .if1 .taken))
 
-enum-told : tie.Need-enum-told
-enum-told c = search needs
-
 returns-2 : tie.Need-returns-2
 returns-2 c =
     let k = c .before .before .before in
@@ -19,7 +16,7 @@ returns-2 c =
 returns-3 : tie.Need-returns-3
 returns-3 c =
     let k = c .before .before .before in
-    open-head _ (k .before .if1 .left) (k .check-block .ensures) (c .header .result) (c .before .enum-told .given .1) (c .header .ensures)
+    open-head _ (k .before .if1 .left) (k .check-block .ensures) (c .front-words .result) (c .before .enum-told .given .1) (c .front-words .ensures)
 
 pub open-spec : {M : Type 1} → statement M
 open-spec =
@@ -28,7 +25,7 @@ open-spec =
     returns
     (λ c κs. search needs)
     (λ c. search needs)
-    enum-told
+    (λ c. search needs)
     (λ c κs. search needs)
     returns-2
     returns-3)

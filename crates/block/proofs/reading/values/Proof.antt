@@ -24,9 +24,6 @@ head-at c = sym (c .before .before .«open» .ensures) ∙ ap opened (c .h .give
 part-result-end : tie.Need-part-result-end
 part-result-end c = omega (arith, values-head _ _ (head-at (c .before)) .0)
 
-enum-told : tie.Need-enum-told
-enum-told c = search needs
-
 returns : tie.Need-returns
 returns c =
     let k = c .before .before in
@@ -54,7 +51,7 @@ values-spec =
     (λ c. search needs)
     (λ c. search needs)
     part-result-end
-    enum-told
+    (λ c. search needs)
     (λ c. search needs)
     (λ c. search needs)
     (λ c. search needs)

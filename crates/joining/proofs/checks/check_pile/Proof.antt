@@ -48,9 +48,6 @@ returns-3 c =
     let f = c .before .before .before in
     part-speaks (everyBlock (f .before .before .before .before .args .pile .now)) _ (left2 (f .before)) (f .check-blocks .ensures) (c .before .r .given .1)
 
-enum-told : tie.Need-enum-told
-enum-told c = search needs
-
 returns-4 : tie.Need-returns-4
 returns-4 c =
     let s = c .before .before .before .before .before .before .before .before in
@@ -78,7 +75,7 @@ check-pile-spec =
     (λ c κs. search needs)
     (λ c. search needs)
     returns-3
-    enum-told
+    (λ c. search needs)
     (λ c κs. search needs)
     returns-4
     check-whole-requires

@@ -10,7 +10,7 @@ use Rattle.answer.specs.Outcome.{refused}
 use Rattle.answer.proofs.SaysLaws.{said, Says, whole, passes, speaks, silent, part-speaks, part-passes}
 use Rattle.lists.proofs.FirstLaws.{found-some, found-none}
 use Rattle.block.specs.declared.deal.DealWords.{DealWords}
-use Rattle.joining.specs.Pile.{pieceCount, width, present}
+use Rattle.joining.specs.Pile.{ownPieces, present}
 use Rattle.joining.specs.Checks.{conflict, short, wholeLines}
 use Rattle.joining.specs.True.{Unmixed}
 use Rattle.joining.proofs.PileLaws.{unmixed, pieces-in}
@@ -58,12 +58,9 @@ returns-2 c =
     let e = f .before .before .before .before in
     part-speaks (conflict (e .before .before .before .before .args .pile .now) ∷ []) _ (left1 e) (f .check-conflict .ensures) (c .before .r .given .1)
 
-enum-told : tie.Need-enum-told
-enum-told c = search needs
-
 -- k, and the pieces present
 k-is : (c : tie.After-enum-told)
-    → (c .before .before .before .before .before .before .before .before .own-deal .result .pieces ≡ pieceCount (c .before .before .before .before .before .before .before .before .before .before .args .pile .now))
+    → (c .before .before .before .before .before .before .before .before .own-deal .result .pieces ≡ ownPieces (c .before .before .before .before .before .before .before .before .before .before .args .pile .now))
     × (c .before .before .before .before .before .before .before .before .own-deal .result .pieces ≤ 70)
 k-is c =
     let e = c .before .before .before .before .before .before in
@@ -107,7 +104,7 @@ check-whole-spec =
     check-conflict-requires
     (λ c. search needs)
     returns-2
-    enum-told
+    (λ c. search needs)
     (λ c. search needs)
     count-present-requires
     (λ c κs. search needs)

@@ -7,13 +7,13 @@ use Prim.Native.Nat.{ℕ, _-_, _≤_}
 use lib.ListN.{length}
 use Rattle.lists.specs.Places.{those}
 use Rattle.lists.proofs.ThoseLaws.{those-few}
-use Rattle.joining.specs.True.{marked}
+use Rattle.joining.specs.True.{placed}
 use Rattle.joining.proofs.ShortLaws.{turn-found, turn-missing}
 use Rattle.joining.proofs.checks.count_present.Statement.{statement}
 use Rattle.joining.proofs.checks.count_present.Tie as tie
 
 abbrev Inv-loop : tie.InvT-loop
-Inv-loop table k found₀ j₀ found j = (j ≤ k) × (found ≡ length (those (marked table) 1 j))
+Inv-loop table k found₀ j₀ found j = (j ≤ k) × (found ≡ length (those (placed table) 1 j))
 
 abbrev μ-loop : tie.MeasureT-loop
 μ-loop table k found₀ j₀ found j = k - j
@@ -25,7 +25,7 @@ loop-holds c = (omega arith, refl)
 add-found : tie.Need-add-found Inv-loop μ-loop
 add-found c =
     let l = c .before .before .before in
-    omega (arith, l .loop .inv .1, those-few (marked (l .before .args .table .now)) 1 (l .loop .j))
+    omega (arith, l .loop .inv .1, those-few (placed (l .before .args .table .now)) 1 (l .loop .j))
 
 loop-again : tie.Need-loop-again Inv-loop μ-loop
 loop-again c =
@@ -42,7 +42,7 @@ returns : tie.Need-returns Inv-loop μ-loop
 returns c =
     let l = c .before in
     let e : l .loop .j ≡ l .before .args .k = omega arith in
-    l .loop .inv .1 ∙ ap (λ (n : ℕ). length (those (marked (l .before .args .table .now)) 1 n)) e
+    l .loop .inv .1 ∙ ap (λ (n : ℕ). length (those (placed (l .before .args .table .now)) 1 n)) e
 
 pub count-present-spec : {M : Type 1} → statement M
 count-present-spec =

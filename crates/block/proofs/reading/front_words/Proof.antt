@@ -1,8 +1,8 @@
--- `block::reading::header` meets its contract: seven words read. Assumes nothing.
+-- `block::reading::front_words` meets its contract: seven words read. Assumes nothing.
 use mathlib.Core.List.{[], _∷_}
 use borrow.Author.Needs.{needs}
-use Rattle.block.proofs.reading.header.Statement.{statement}
-use Rattle.block.proofs.reading.header.Tie as tie
+use Rattle.block.proofs.reading.front_words.Statement.{statement}
+use Rattle.block.proofs.reading.front_words.Tie as tie
 
 returns : tie.Need-returns
 returns c = λ i.
@@ -15,8 +15,8 @@ returns c = λ i.
     ∷ c .word7 .ensures i
     ∷ []
 
-pub header-spec : {M : Type 1} → statement M
-header-spec =
+pub front-words-spec : {M : Type 1} → statement M
+front-words-spec =
     tie.close
     (tie.spec
     (λ c κs. search needs)
