@@ -1,6 +1,6 @@
-/* Deals to four custodians, damages a card and joins: what the unit does with a good pile, a short one and a dirty one.
+/* Deals to four custodians, damages a card and joins: what the unit does with a good pile, a short one, a dirty one and a torn one.
  *   rt staticlib titmeadow && cc -I include examples/deal_damage_join.c target/staticlib/libtitmeadow.a -o target/example && target/example
- * It prints its four answers and ends with status 0 where they are those that document 01 gives. */
+ * It prints its six answers and ends with status 0 where they are those that document 01 gives. */
 #include <stdio.h>
 #include <string.h>
 #include "titmeadow.h"
@@ -30,11 +30,14 @@ static int is(const char *what, titmeadow_answer answer, size_t number, size_t a
 
 int main(void) {
     static uint8_t pile[4 * 512];
-    uint16_t groups[70], joined[16] = {0};
+    uint16_t groups[70], head[7] = {0}, joined[16] = {0};
     int good = is("plan", titmeadow_plan(4, required, 3, forbidden, 1, groups), 0, 3, 0);
 
     size_t length = cards(1, 2, pile, sizeof pile);
     good &= is("holders 1 and 2", titmeadow_join(pile, length, joined, 16), 0, 1, 0) && joined[0] == 1234;
+
+    good &= is("block 1", titmeadow_open(pile, length, head), 0, 7, 0) && head[0] == 1987 && head[2] == 1 && head[6] == 3;
+    good &= is("511 bytes of it", titmeadow_open(pile, 511, head), TITMEADOW_TORN, 0, 0) && head[6] == 3;
 
     length = cards(1, 4, pile, sizeof pile);
     good &= is("holders 1 and 4", titmeadow_join(pile, length, joined, 16), TITMEADOW_SHORT, 2, 3);

@@ -1,4 +1,4 @@
-/* Titmeadow: planning, dealing and joining for the vault unit. Link target/staticlib/libunit.a (rt staticlib unit).
+/* Titmeadow: planning, dealing and joining for the vault unit. Link target/staticlib/libtitmeadow.a (rt staticlib titmeadow).
  *
  * Every call, on every input, ends with its result or with one of the numbered refusals and its two places a and b, 0 unless named.
  * Places, blocks and words count from 1. A refusal changes no byte or word lent to it; a result writes only what is said here.
@@ -20,7 +20,7 @@ typedef struct {
     size_t number, a, b;
 } titmeadow_answer;
 
-/* The refusals, in the order in which they are checked; a, b as named, else 0. */
+/* The refusals by number; a, b as named, else 0. Each call below says which it gives, and in which order. */
 enum titmeadow_refusal {
     TITMEADOW_PEOPLE = 1,    /* the number of people is 0 or above 8 */
     TITMEADOW_LONGLIST = 2,  /* a list has over 256 sets; a: 1 required, 2 forbidden */
@@ -64,7 +64,7 @@ titmeadow_answer titmeadow_deal(size_t people, const uint16_t *required, size_t 
 titmeadow_answer titmeadow_join(const uint8_t *pile, size_t length, uint16_t *secret, size_t room);
 
 /* Opening the first block of a pile: the result is 7, and its words 1 to 7 are written to the seven places of head.
- * Refuses 13 (fewer than 512 bytes), 15, 16, 17, with a = 1. */
+ * Refuses 13 (fewer than 512 bytes; a = 0, since there is no block), then 15, 16, 17 with a = 1. */
 titmeadow_answer titmeadow_open(const uint8_t *pile, size_t length, uint16_t *head);
 
 #ifdef __cplusplus
