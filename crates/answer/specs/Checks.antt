@@ -1,4 +1,4 @@
--- "Bad input gets its numbered refusal": checks in document 01's order, of which the first that fails speaks.
+-- Checks in the order of SCOPE 6.3, of which the first that fails gives the answer.
 -- Assumes nothing.
 use mathlib.Core.Bool.{Bool, true, false}
 use mathlib.Core.List.{List, [], _∷_}

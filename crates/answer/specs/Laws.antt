@@ -43,10 +43,10 @@ PassedDone = (A : Type 0) (ls : List Line) (end : Outcome A) → Passed ls → f
 abbrev pub RefusedBy : Type 1
 RefusedBy = (A : Type 0) (ls : List Line) (v : A) (m a b : ℕ) → firstFail ls (done v) ≡ refused m a b → By ls m a b
 
--- "A refusal changes nothing lent."
+-- SCOPE 6.4: after a refusal, all that was lent is as before.
 abbrev pub RefusalKeeps : Type 1
 RefusalKeeps = (A : Type 0) (o : Outcome A) (m a b : ℕ) (new old : List ℕ) → o ≡ refused m a b → left o new old ≡ old
 
--- A result writes `new` over the front, and the rest stays.
+-- A result writes `new` over the front; what lies behind is as before.
 abbrev pub ResultWrites : Type 1
 ResultWrites = (A : Type 0) (o : Outcome A) (v : A) (new old : List ℕ) → o ≡ done v → left o new old ≡ over new old

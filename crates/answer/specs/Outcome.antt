@@ -1,4 +1,4 @@
--- What an answer says in document 01's terms: a result, or a refusal's number and its two places.
+-- What an answer says in the terms of SCOPE 6.1: a result, or a refusal's number and its two places.
 -- Assumes nothing.
 use Prim.Native.Nat.{ℕ}
 use Rattle.answer.specs.declared.Kind.{Kind}
@@ -7,7 +7,7 @@ use Rattle.answer.specs.declared.Kind.the-variants.{Room, Torn, Long, Un
 use Rattle.answer.specs.declared.Answer.{Answer}
 use Rattle.answer.specs.declared.Answer.the-variants.{Done, Refused}
 
--- the column "no." of the table of refusals
+-- the number that SCOPE 6.2 gives each refusal
 abbrev pub number : Kind → ℕ
 number People = 1
 number LongList = 2
@@ -31,7 +31,7 @@ number Conflict = 19
 number Short = 20
 number Text = 21
 
--- "Each answer is a result or a refusal; a refusal carries its number and two places a and b". What a result is, each call says: A.
+-- SCOPE 6.1: a call ends with a result, or with a refusal, which has a number and the places a and b. What a result is, each call says: A.
 pub data Outcome (A : Type 0) : Type 0 where
   done : A → Outcome A
   refused : ℕ → ℕ → ℕ → Outcome A

@@ -1,9 +1,9 @@
 // What every call answers: a result, or a refusal with its kind and two places. Contracts speak of it through `outcome`
-// (specs/Outcome.antt), which gives document 01's number and places for each case.
+// (specs/Outcome.antt), which gives the number and the places of SCOPE 6 for each case.
 ghost use mathlib.Core.Path.{_≡_};
 ghost use Rattle.answer.specs.Outcome.{number, outcome, refused};
 
-// The kinds of refusal, in the order of document 01's table.
+// The kinds of refusal, in the order of the table in SCOPE 6.2.
 pub enum Kind {
     People,
     LongList,
@@ -28,7 +28,7 @@ pub enum Kind {
     Text,
 }
 
-// A refusal carries its kind and two places, 0 unless named.
+// A refusal: its kind and its two places, each 0 where SCOPE 6.2 names none.
 pub struct Refusal {
     pub kind: Kind,
     pub a: usize,
@@ -41,7 +41,7 @@ pub enum Answer {
     Refused(Refusal),
 }
 
-// Document 01's number of a kind.
+// The number of a kind, by SCOPE 6.2.
 pub fn number_of(k: Kind) -> usize
     ensures { λ r. ⌜ r ≡ number k ⌝ }
 {

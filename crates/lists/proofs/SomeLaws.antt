@@ -1,4 +1,4 @@
--- "Some set of the list": which one it is, and that a first place is found exactly where there is one.
+-- Some set of the list: which one it is, and that a first place is found exactly where there is one.
 -- Assumes nothing.
 use mathlib.Core.Path.{_≡_, refl, sym, ap, _∙_}
 use mathlib.Core.Bool.{Bool, true, false, false≢true}

@@ -1,4 +1,4 @@
--- Places: "Places, blocks and words count from 1"; 0 says that there is none.
+-- Places, which are counted from 1 (SCOPE 1); 0 says that there is none.
 -- Assumes nothing.
 use mathlib.Core.Bool.{Bool, cond, not}
 use mathlib.Core.List.{List, [], _∷_, _++_}

@@ -26,7 +26,7 @@ pub fn write_number(out: &mut [u8], at: usize, n: usize) -> usize
     crate::decimal::write_decimal(out, at + 1, n)
 }
 
-// Writes numbers in decimal from at on, a space before each, and answers the index behind them.
+// Writes numbers in decimal from at on, one space in front of each, and answers the index behind them.
 pub fn write_words(out: &mut [u8], at: usize, words: &[u16]) -> usize
     requires { ⌜ Room (spacedAll (now words)) at (now out) ⌝ }
     ensures { λ r. ⌜ Writes (spacedAll (now (words .entry))) at (now (out .entry)) (now (out .exit)) r ⌝ }
