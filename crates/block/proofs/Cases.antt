@@ -1,4 +1,4 @@
--- P11 of document 01, by computation: every byte of the block, and that it can be written.
+-- P11 (SCOPE 8.1), by computation: every byte of the block, and that it can be written.
 -- Assumes nothing.
 use mathlib.Core.Path.{_≡_, refl}
 use mathlib.Core.List.{[], _∷_, _++_}

@@ -1,4 +1,4 @@
--- Opening takes the first 512 bytes: what follows them changes no line and no value byte.
+-- Opening looks at 512 bytes: what follows them changes no line and no value byte.
 -- Assumes nothing.
 use mathlib.Core.Path.{_≡_, refl, sym, ap, _∙_}
 use mathlib.Core.List.{List, [], _++_}

@@ -1,4 +1,4 @@
--- The sum of i times word i: one word more, words that agree, and one word that differs.
+-- The weighted sum of a check: one word more, words that agree, and one word that differs.
 -- Assumes nothing.
 use mathlib.Core.Path.{_≡_, refl, ap}
 use mathlib.Core.Logic.{⊎-elim, _≢_}

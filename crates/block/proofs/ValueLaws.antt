@@ -16,7 +16,7 @@ use Rattle.block.proofs.WordLaws.{bytes-of-words}
 use Rattle.block.proofs.RangeLaws.{true-ranges}
 use Rattle.block.proofs.OpenLaws.{true-opens, opens-true}
 
--- a refused block gives the empty part
+-- a refused block has no value bytes
 pub refused-empty : (pile : List ℕ) (m a b : ℕ) → opening pile ≡ refused m a b → (valueBytes pile ≡ []) × (valueStart pile ≡ 0)
 unfolding valueBytes valueStart
 refused-empty pile m a b e = (rw e, rw e)

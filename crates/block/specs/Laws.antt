@@ -30,7 +30,7 @@ pub record Ranges (l : Label) : Type 0 where
 abbrev pub RangesMean : Type 0
 RangesMean = (l : Label) → Ranged l ↔ Ranges l
 
--- "one block of 512 bytes"
+-- SCOPE 4: a block has 512 bytes.
 abbrev pub BlockLength : Type 0
 BlockLength = (l : Label) (vs : List ℕ) → Buildable l vs → length (blockBytes l vs) ≡ 512
 
@@ -60,11 +60,11 @@ abbrev pub OnlyWords : Type 0
 OnlyWords = (b c : List ℕ) → ((i : ℕ) → 1 ≤ i → i ≤ 256 → wordAt b i ≡ wordAt c i)
     → ((a : ℕ) → blockLines b a ≡ blockLines c a) × (frontWords b ≡ frontWords c) × (TrueBlock b → 512 ≤ length c → TrueBlock c)
 
--- "A true block is one that passes 15, 16 and 17": as block a of a pile, whatever a is; and whatever passes them is one.
+-- SCOPE 4: UNREAD, CHECK and HEADER pass on a true block, as block a of a pile, whatever a is; and 512 bytes on which they pass begin one.
 abbrev pub TrueMeans : Type 0
 TrueMeans = (b : List ℕ) (a : ℕ) → (TrueBlock b → Passed (blockLines b a)) × (512 ≤ length b → Passed (blockLines b a) → TrueBlock b)
 
--- "all its words are at most 32748"
+-- SCOPE 4: no word of a true block exceeds 32748.
 abbrev pub TrueSmall : Type 0
 TrueSmall = (b : List ℕ) → TrueBlock b → (i : ℕ) → 1 ≤ i → i ≤ 256 → wordAt b i ≤ 32748
 
@@ -75,18 +75,18 @@ TrueOpens = (pile : List ℕ) → TrueBlock pile → opening pile ≡ done (fron
 abbrev pub OpensTrue : Type 0
 OpensTrue = (pile ws : List ℕ) → opening pile ≡ done ws → TrueBlock pile × (ws ≡ frontWords pile)
 
--- "changing any one word .. makes a block that is refused": v is any other value. One above 32748 is UNREAD, any other CHECK.
+-- SCOPE 4, damage shows: one word, any of the 256, is overwritten with another value v. Above 32748 it is UNREAD, else CHECK.
 abbrev pub Changed : Type 0
 Changed = (b : List ℕ) (i v : ℕ) → TrueBlock b → 1 ≤ i → i ≤ 256 → v ≢ wordAt b i
     → (32748 < v → opening (putAt b i v) ≡ refused 15 1 0)
     × (v ≤ 32748 → opening (putAt b i v) ≡ refused 16 1 0)
 
--- "or exchanging two unequal words among the first 255, makes a block that is refused": CHECK.
+-- And where two words of 1 to 255 that differ change places, it is CHECK.
 abbrev pub Exchanged : Type 0
 Exchanged = (b : List ℕ) (i j : ℕ) → TrueBlock b → 1 ≤ i → i ≤ 255 → 1 ≤ j → j ≤ 255 → wordAt b i ≢ wordAt b j
     → opening (putAt (putAt b i (wordAt b j)) j (wordAt b i)) ≡ refused 16 1 0
 
--- "Opening takes the first 512 bytes of what it is lent": no other byte counts, for the value bytes neither.
+-- SCOPE 5: opening looks at 512 bytes, and at none behind them; for the value bytes too no other byte counts.
 abbrev pub FirstBytes : Type 0
 FirstBytes = (pile : List ℕ) → (opening (take 512 pile) ≡ opening pile) × (valueBytes (take 512 pile) ≡ valueBytes pile)
 
@@ -105,13 +105,13 @@ WhichRefusals = (pile : List ℕ) (m a b : ℕ) → opening pile ≡ refused m a
 abbrev pub OpenedOne : Type 0
 OpenedOne = (x y : Opened) → opened x ≡ opened y → x ≡ y
 
--- "the 2w value bytes": they are words "8 to 7+w" of a true block, all of them.
+-- SCOPE 5: the value bytes of a true block are 2w, and they are its words from 8 to 7+w, all of them.
 abbrev pub ValueWords : Type 0
 ValueWords = (pile : List ℕ) → TrueBlock pile
     → (length (valueBytes pile) ≡ 2 * widthOf pile)
     × ((i : ℕ) → 1 ≤ i → i ≤ widthOf pile → wordAt (valueBytes pile) i ≡ wordAt pile (7 + i))
 
--- "a refused block gives the empty part"
+-- SCOPE 5: a refused block has no value bytes; that part lies at the front.
 abbrev pub RefusedEmpty : Type 0
 RefusedEmpty = (pile : List ℕ) (m a b : ℕ) → opening pile ≡ refused m a b → (valueBytes pile ≡ []) × (valueStart pile ≡ 0)
 

@@ -1,4 +1,4 @@
--- "Opening takes the first 512 bytes of what it is lent: fewer is TORN, then 15, 16, 17 with a = 1", else words 1 to 7; and the value bytes.
+-- Opening the first block of what is lent (SCOPE 5): TORN, UNREAD, CHECK, HEADER, else words 1 to 7; and the value bytes.
 -- Assumes nothing.
 use Prim.Native.Nat.{ℕ, _*_, _≤_}
 use mathlib.Core.Path.{_≡_}
@@ -17,7 +17,7 @@ use Rattle.block.specs.declared.Words.{Words}
 use Rattle.block.specs.declared.Opened.{Opened}
 use Rattle.block.specs.declared.Opened.the-variants.{Head, Refused}
 
--- "a word above 32748"
+-- word i exceeds 32748
 abbrev pub above : List ℕ → ℕ → Bool
 above b i = tooLarge (wordAt b i)
 
@@ -33,15 +33,15 @@ cleanCheck b = cond (eqb (firstAbove b) 0) (checkOf b) 0
 abbrev pub torn : List ℕ → Line
 torn pile = line Torn (ltb (length pile) 512) 0 0
 
--- 15 UNREAD: "a word above 32748", "a: block"
+-- 15 UNREAD: some word exceeds 32748; a is the block
 abbrev pub unread : List ℕ → ℕ → Line
 unread b a = line Unread (found (firstAbove b)) a 0
 
--- 16 CHECK: "word 256 is wrong", "a: block"
+-- 16 CHECK: word 256 is not the check of the others; a is the block
 abbrev pub check : List ℕ → ℕ → Line
 check b a = line Check (not (eqb (checkOf b) (wordAt b 256))) a 0
 
--- 17 HEADER: "words 1 to 255 break the layout", "block, first wrong word"
+-- 17 HEADER: some word from 1 to 255 is not as SCOPE 4 has it; a is the block, b the first such word
 abbrev pub header : List ℕ → ℕ → Line
 header b a = line Header (found (firstWrong b)) a (firstWrong b)
 
@@ -62,11 +62,11 @@ abbrev pub byOutcome : {A B : Type 0} → Outcome A → B → B → B
 byOutcome (done v) x y = x
 byOutcome (refused m a b) x y = y
 
--- "the 2w value bytes, starting 14 bytes into that block ..; a refused block gives the empty part"
+-- SCOPE 5: the 2w bytes of the values, from byte 14 of the block on; of a refused block, no bytes
 unfoldable pub valueBytes : List ℕ → List ℕ
 valueBytes pile = byOutcome (opening pile) (take (2 * widthOf pile) (drop 14 pile)) []
 
--- where in the pile that part starts: 14 bytes in, the empty part at the front
+-- where in the pile they start: at byte 14; where there are none, at the front
 unfoldable pub valueStart : List ℕ → ℕ
 valueStart pile = byOutcome (opening pile) 14 0
 
@@ -79,7 +79,7 @@ abbrev pub opened : Opened → Outcome (List ℕ)
 opened (Head h) = done (wordsOf h)
 opened (Refused r) = refused (number (r .kind)) (r .a) (r .b)
 
--- "A true block is one that passes 15, 16 and 17; all its words are at most 32748."
+-- SCOPE 4: a true block; none of UNREAD, CHECK and HEADER applies to it, and no word exceeds 32748
 pub record TrueBlock (b : List ℕ) : Type 0 where
   pub long : 512 ≤ length b
   pub clean : Small b 256

@@ -1,5 +1,5 @@
-// The card block: 512 bytes, read as 256 words of 16 bits, high byte first, numbered from 1.
-// The definitions that the contracts cite are in specs/, in document 01's words and order.
+// The card block (SCOPE 4): 512 bytes, read as 256 words of two bytes, the high byte in front.
+// The definitions that the contracts cite are in specs/, in SCOPE's terms and order.
 mod deal;
 mod reading;
 mod writing;
@@ -52,7 +52,7 @@ pub fn word(b: &[u8], i: usize) -> u16
     (b[at] as u16) * 256 + (b[at + 1] as u16)
 }
 
-// One step of a check: the one place where a word enters a sum. A word above 32748 never does. Each word adds at most
+// One step of a check: the one place where a word enters a sum. No word above 32748 gets there. Each word adds at most
 // 255 x 32748 = 8350740, so the sum of 255 words fits.
 fn weigh(sum: u32, i: usize, v: u16) -> u32
     requires { ⌜ v ≤ 32748 ⌝ }

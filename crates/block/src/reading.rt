@@ -93,7 +93,7 @@ fn first_filled(b: &[u8], start: usize, end: usize) -> usize
     0
 }
 
-// The first of words 1 to 255 that breaks the layout, or 0: words 1 to 7, then the words past the values, which are 0.
+// The first of words 1 to 255 that is not as SCOPE 4 has it, or 0: words 1 to 7, then the words past the values, which are 0.
 fn first_wrong(b: &[u8]) -> usize
     requires { ⌜ 510 ≤ length (now b) ⌝ }
     ensures { λ r. ⌜ r ≡ firstWrong (now (b .entry)) ⌝ }
@@ -187,7 +187,7 @@ pub fn open(pile: &[u8]) -> Opened
     }
 }
 
-// The value bytes of the first block of a pile, as a part of the pile and not a copy; of a refused block the empty part.
+// The value bytes of the first block of a pile, a stretch of the pile itself; a refused block has none.
 pub fn values(pile: &[u8]) -> &[u8]
     ensures content { λ r. ⌜ now r ≡ valueBytes (now (pile .entry)) ⌝ }
     ensures place { λ r. ⌜ r .ptr ≡ (pile .entry .ptr .0, pile .entry .ptr .1 + valueStart (now (pile .entry))) ⌝ }

@@ -1,4 +1,4 @@
--- A pile of card blocks: how many it has, the rest of it from each block on, their words and deals. Blocks and words count from 1.
+-- A pile of card blocks: how many it has, the rest of it from each block on, their words and deals. Blocks and words are counted from 1.
 -- Assumes nothing.
 use Prim.Native.Nat.{ℕ, _+_, _-_, _*_, _/_, _≤_}
 use mathlib.Core.Bool.{Bool}

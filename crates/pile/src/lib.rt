@@ -1,5 +1,5 @@
-// A pile of card blocks: its words, and its blocks in order, each given as the rest of the pile. The definitions that the contracts cite
-// are in specs/, under the functions' names.
+// A pile of card blocks: its words, and its blocks in order (SCOPE 5). The definitions that the contracts cite are in specs/, under the
+// functions' names.
 use answer::Answer;
 use block::DealWords;
 ghost use mathlib.Core.Path.{_≡_};
@@ -25,7 +25,7 @@ pub fn deal_at(pile: &[u8], a: usize) -> DealWords
     block::deal_words(&pile[512 * (a - 1)..])
 }
 
-// The blocks in pile order, each for UNREAD, CHECK and HEADER: each step is given the rest of the pile.
+// UNREAD, CHECK and HEADER of one block after the other: the check of each is handed the pile from that block to the end (SCOPE 5).
 pub fn check_blocks(pile: &[u8]) -> Answer
     ensures { λ r. ⌜ outcome r ≡ firstFail (everyBlock (now (pile .entry))) (done 0) ⌝ }
 {

@@ -15,18 +15,17 @@ use Rattle.reader.specs.Seeing.{told, ended, sight, counted, seeing, aft
 abbrev pub SightOne : Type 0
 SightOne = (x y : Seen) → sight x ≡ sight y → x ≡ y
 
--- "The reader answers so for its next block, with a counted in the pile": from the front, answer a is what opening block a gives, with a
--- replaced by the block's number.
+-- SCOPE 5: from the front, answer a is what opening block a answers, except that its place a is the block's number in the pile.
 abbrev pub FromFront : Type 0
 FromFront = (pile : List ℕ) (a : ℕ) → 1 ≤ a → a ≤ blocks pile → answerOf pile a ≡ told (counted a (opening (restFrom pile a)))
 
--- "With 1 to 511 bytes left it answers TORN, with none left that the pile has ended, and stays": so is every later answer.
+-- SCOPE 5: after the blocks, every answer is TORN where bytes are left over, and else that the pile is at its end.
 abbrev pub PastBlocks : Type 0
 PastBlocks = (pile : List ℕ) (c : ℕ) → blocks pile < c
     → (length pile % 512 ≢ 0 → answerOf pile c ≡ told (refused 13 0 0))
     × (length pile % 512 ≡ 0 → answerOf pile c ≡ ended)
 
--- ".. and steps past it, refused or not .., and stays": at every place, of any size.
+-- SCOPE 5: the reader passes a block that is left, also if it was refused, and else does not move: at every place, of any size.
 abbrev pub OneStep : Type 0
 OneStep = (pile : List ℕ) (n : ℕ) → (n < blocks pile → after pile n ≡ n + 1) × (blocks pile ≤ n → after pile n ≡ n)
 
@@ -38,13 +37,13 @@ NeverPast = (pile : List ℕ) (c : ℕ) → (c ≤ blocks pile → placeAfter pi
 abbrev pub PastEnd : Type 0
 PastEnd = (pile : List ℕ) (n : ℕ) → blocks pile < n → (seeing pile n ≡ ended) × (after pile n ≡ n)
 
--- "a second call on it hands back the 2w value bytes": after a step, those of the block passed, where they lie in the pile.
+-- SCOPE 5: after a step, the value bytes are those of the block that was passed, where they lie in the pile.
 abbrev pub ValuesPassed : Type 0
 ValuesPassed = (pile : List ℕ) (n : ℕ) → n < blocks pile
     → (valuesOf pile (after pile n) ≡ valueBytes (restFrom pile (n + 1)))
     × (valuesFrom pile (after pile n) ≡ 512 * n + valueStart (restFrom pile (n + 1)))
 
--- "a refused block gives the empty part"
+-- SCOPE 5: a refused block has no value bytes.
 abbrev pub RefusedEmpty : Type 0
 RefusedEmpty = (pile : List ℕ) (n m a b : ℕ) → n < blocks pile → seeing pile n ≡ told (refused m a b) → valuesOf pile (after pile n) ≡ []
 

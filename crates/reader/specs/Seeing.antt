@@ -1,4 +1,4 @@
--- What the reader answers, from "the pile and its place": n blocks were passed, so the next is block n + 1.
+-- What the reader answers (SCOPE 5), by its pile and how far it has come: n blocks were passed, so the next is block n + 1.
 -- Assumes nothing.
 use Prim.Native.Nat.{ℕ, zero, suc, _+_, _-_, _*_}
 use mathlib.Core.Path.{_≡_}
@@ -17,7 +17,7 @@ use Rattle.reader.specs.declared.Seen.{Seen}
 use Rattle.reader.specs.declared.Seen.the-variants.{Head, Refused, Ended}
 use Rattle.reader.specs.declared.Reader.{Reader}
 
--- what is said of the next block: what opening says of one, or "that the pile has ended"
+-- what is said of the next block: what opening says of one, or that the pile is at its end
 pub data Sight : Type 0 where
   told : Outcome (List ℕ) → Sight
   ended : Sight
@@ -28,20 +28,20 @@ sight (Head h) = told (done (wordsOf h))
 sight (Refused r) = told (refused (number (r .kind)) (r .a) (r .b))
 sight Ended = ended
 
--- by what is left of the pile: at least 512 bytes, "1 to 511 bytes", or "none"
+-- by what is left of the pile: 512 bytes or more, fewer but some, or none
 abbrev pub byLeft : {A : Type 0} → List ℕ → A → A → A → A
 byLeft rest block some none = cond (leb 512 (length rest)) block (cond (leb 1 (length rest)) some none)
 
--- "15, 16, 17" of block a, "with a counted in the pile", else its words 1 to 7
+-- UNREAD, CHECK and HEADER of block a, whose number is their place a, else its words 1 to 7
 unfoldable pub openingAt : List ℕ → ℕ → Outcome (List ℕ)
 openingAt pile a = firstFail (blockLines (restFrom pile a) a) (done (frontWords (restFrom pile a)))
 
--- "The reader answers so for its next block ..; With 1 to 511 bytes left it answers TORN, with none left that the pile has ended".
+-- SCOPE 5: with a block left, what opening it answers; with fewer bytes left, but some, TORN; else that the pile is at its end.
 -- A place past the pile's end leaves none.
 unfoldable pub seeing : List ℕ → ℕ → Sight
 seeing pile n = byLeft (restFrom pile (n + 1)) (told (openingAt pile (n + 1))) (told (refused 13 0 0)) ended
 
--- ".. and steps past it, refused or not. With 1 to 511 bytes left .., with none left .., and stays."
+-- SCOPE 5: with a block left, that block is passed, also if it was refused; else the reader does not move
 unfoldable pub after : List ℕ → ℕ → ℕ
 after pile n = byLeft (restFrom pile (n + 1)) (n + 1) n n
 
@@ -49,15 +49,15 @@ after pile n = byLeft (restFrom pile (n + 1)) (n + 1) n n
 abbrev pub hasBlock : List ℕ → ℕ → Bool
 hasBlock pile a = leb 1 a && leb a (blocks pile)
 
--- "the 2w value bytes" of block a, "a refused block gives the empty part", and so does a block that the pile does not have
+-- SCOPE 5: the value bytes of block a; a refused block has none, nor has one that is not in the pile
 unfoldable pub valuesOf : List ℕ → ℕ → List ℕ
 valuesOf pile a = cond (hasBlock pile a) (valueBytes (restFrom pile a)) []
 
--- where in the pile that part starts: "14 bytes into that block"; the empty part at the front of the block, or of the pile
+-- where in the pile they start: at byte 14 of the block; where there are none, at the front of the block, or of the pile
 unfoldable pub valuesFrom : List ℕ → ℕ → ℕ
 valuesFrom pile a = cond (hasBlock pile a) (512 * (a - 1) + valueStart (restFrom pile a)) 0
 
--- "as part of the caller's own pile and not a copy": the part holds those bytes, and it points into the pile, at that place
+-- SCOPE 5: a stretch of the pile itself, and no copy: the part holds those bytes, and it points into the pile, at that place
 abbrev pub ValuesIn : RefT (List ℕ) → ℕ → RefT (List ℕ) → Type 0
 ValuesIn pile a part =
     (now part ≡ valuesOf (now pile) a)
@@ -81,6 +81,6 @@ placeAfter pile (suc c) = after pile (placeAfter pile c)
 abbrev pub answerOf : List ℕ → ℕ → Sight
 answerOf pile c = seeing pile (placeAfter pile (c - 1))
 
--- a pile read from the front to its end: "blocks in pile order, each for 15, 16, 17", then TORN, else how many blocks it has
+-- a pile read from the front to its end: for one block after the other UNREAD, CHECK and HEADER, then TORN, else how many blocks it has
 unfoldable pub reading : List ℕ → Outcome ℕ
 reading pile = firstFail (everyBlock pile ++ (tornPile pile ∷ [])) (done (blocks pile))

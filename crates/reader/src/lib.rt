@@ -1,4 +1,4 @@
-// A thin reader that keeps the pile and its place: `new`, `next` and `values`. They take the struct apart and call `seen_at`, `after`
+// The reader (SCOPE 5), a pile and how far it has come: `new`, `next` and `values`. They take the struct apart and call `seen_at`, `after`
 // and `values_of`, on the pile and a number. `read_at` and `read_all` stand above it, with plain parameters, so that their callers
 // need no proof by hand. The definitions that the contracts cite are in specs/.
 use answer::Answer;
@@ -11,7 +11,7 @@ ghost use Rattle.answer.specs.Outcome.{outcome};
 ghost use Rattle.block.specs.Open.{opened};
 ghost use Rattle.reader.specs.Seeing.{told, sight, counted, seeing, after, ValuesIn, stepped, reading};
 
-// What the reader answers: words 1 to 7 of a block, a refusal, or that the pile has ended.
+// What the reader answers: words 1 to 7 of a block, a refusal, or that the pile is at its end.
 pub enum Seen {
     Head(Words),
     Refused(Refusal),
@@ -83,7 +83,7 @@ pub fn after(pile: &[u8], passed: usize) -> usize
     }
 }
 
-// The value bytes of block a, as a part of the pile and not a copy; of a refused block, and where there is no block a, the empty part.
+// The value bytes of block a, a stretch of the pile itself; a refused block has none, and where there is no block a there are none.
 pub fn values_of(pile: &[u8], a: usize) -> &[u8]
     ensures { λ r. ⌜ ValuesIn (pile .entry) a r ⌝ }
 {
@@ -104,7 +104,7 @@ pub fn new<'a>(pile: &'a [u8]) -> Reader<'a>
     Reader { pile, block: 0 }
 }
 
-// Answers for the next block and steps past it, refused or not; with no block left it answers so, and stays.
+// Answers for the next block and passes it, also if it was refused; with no block left it answers so, and does not move.
 pub fn next<'s, 'a>(r: &'s mut Reader<'a>) -> Seen
     ensures { λ s. ⌜ (sight s ≡ seeing (now (now (r .entry) .pile)) (now (r .entry) .block)) × (now (r .exit) ≡ stepped (now (r .entry))) ⌝ }
 {

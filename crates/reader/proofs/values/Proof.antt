@@ -1,4 +1,4 @@
--- `reader::values` meets its contract: a walk of its MIR, by hand. The struct is taken apart, and `values_of` is called on the slice and the number.
+-- `reader::values` meets its contract: a walk of its MIR, by hand. The struct is taken apart; `values_of` is called with the slice and the number.
 -- The struct is Copy: one copy of what it owns is kept whole for the exit, and of the other what pile owns goes to the callee. Assumes nothing.
 use mathlib.Core.Path.{_≡_, refl}
 use Prim.Native.Nat.{ℕ, _<_, _^_}
