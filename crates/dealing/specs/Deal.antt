@@ -1,4 +1,4 @@
--- One deal and its cards, as bytes: document 01, "From secret to pieces" and "The card block".
+-- One deal and its cards, as bytes (SCOPE 3 and 4).
 -- Assumes nothing.
 use Prim.Native.Nat.{ℕ, _-_}
 use mathlib.Core.List.{List, map}
@@ -11,7 +11,7 @@ use Rattle.block.specs.declared.Label.{Label}
 use Rattle.block.specs.Written.{blockBytes}
 use Rattle.dealing.specs.declared.Asked.{Asked}
 
--- "The cards of one deal share policy, deal number, secret and randomness."
+-- SCOPE 3: one deal, the four that all its cards are made from
 pub record Deal : Type 0 where
   pub policy : Policy
   pub number : ℕ
@@ -57,7 +57,7 @@ dealPieces d = planning.pieceCount (d .policy .people) (d .policy .required)
 unfoldable pub heldBy : Deal → ℕ → List ℕ
 heldBy d holder = planning.held (d .policy .people) (d .policy .required) holder
 
--- "values of piece j", one for each word of the secret: "those of word 1 first, then word 2"
+-- the values of piece j, one for each word of the secret, in the order of the words
 unfoldable pub pieceValues : Deal → ℕ → List ℕ
 pieceValues d j = valuesIn (dealPieces d - 1) (d .secret) (d .random) j
 
@@ -73,6 +73,6 @@ blockOf d holder j = blockFor (askedOf d holder) (dealPieces d) (d .secret) (d .
 unfoldable pub cardBlocks : Deal → ℕ → List (List ℕ)
 cardBlocks d holder = map (blockOf d holder) (heldBy d holder)
 
--- the holder's card: "a person who holds none has a card of no bytes"
+-- SCOPE 4: the holder's card; a holder of no piece has a card without a byte
 unfoldable pub card : Deal → ℕ → List ℕ
 card d holder = cardOver (askedOf d holder) (dealPieces d) (d .secret) (d .random) (heldBy d holder)

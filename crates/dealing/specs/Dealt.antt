@@ -1,4 +1,4 @@
--- What dealing answers and writes: "Dealing checks 1 to 12 in that order", and "A result writes only the first 512 × blocks bytes".
+-- What dealing answers and writes: SCOPE 6, refusals 1 to 12, and the card over the front of the lent output.
 -- Assumes nothing.
 use Prim.Native.Nat.{ℕ, _-_, _*_}
 use mathlib.Core.Path.{_≡_}
@@ -20,19 +20,19 @@ use Rattle.dealing.specs.Deal.{Deal, askedOf, dealPieces, heldBy, card}
 abbrev pub outside : ℕ → ℕ → Bool
 outside high v = eqb v 0 || ltb high v
 
--- 8 DEAL: "deal number outside 1 to 32748"
+-- 8 DEAL: the deal number is 0 or exceeds 32748
 unfoldable pub badNumber : ℕ → Line
 badNumber number = line DealKind (outside 32748 number) 0 0
 
--- 9 HOLDER: "holder outside 1 to n"
+-- 9 HOLDER: the holder is 0 or exceeds n
 unfoldable pub badHolder : ℕ → ℕ → Line
 badHolder people holder = line Holder (outside people holder) 0 0
 
--- 10 SECRET: "w outside 1 to 16 (a = 0)"
+-- 10 SECRET, a = 0: the secret has no words, or more than 16
 unfoldable pub badWidth : List ℕ → Line
 badWidth secret = line Secret (outside 16 (length secret)) 0 0
 
--- 10 SECRET: "else a word above 32748", "a: first bad word"
+-- 10 SECRET: some word exceeds 32748; a is the first such word
 unfoldable pub badSecret : List ℕ → Line
 badSecret secret = line Secret (found (firstPlace tooLarge secret)) (firstPlace tooLarge secret) 0
 
@@ -40,7 +40,7 @@ badSecret secret = line Secret (found (firstPlace tooLarge secret)) (firstPlace 
 unfoldable pub badCount : ℕ → List ℕ → List ℕ → Line
 badCount each secret random = line Random (not (eqb (length random) (length secret * each))) 0 0
 
--- 11 RANDOM: "else a word above 32748", "a: first bad word"
+-- 11 RANDOM: some word exceeds 32748; a is the first such word
 unfoldable pub badRandom : List ℕ → Line
 badRandom random = line Random (found (firstPlace tooLarge random)) (firstPlace tooLarge random) 0
 
@@ -68,7 +68,7 @@ unfoldable pub dealLines : Deal → ℕ → ℕ → List Line
 dealLines d holder room =
     planLines (d .policy) ++ cardLines (askedOf d holder) (dealPieces d - 1) (d .secret) (d .random) (blockCount d holder) room
 
--- what dealing answers: "Dealing returns the number of blocks"
+-- what dealing answers: the first refusal that is given, or how many blocks the card has
 unfoldable pub dealing : Deal → ℕ → ℕ → Outcome ℕ
 dealing d holder room = firstFail (dealLines d holder room) (done (blockCount d holder))
 

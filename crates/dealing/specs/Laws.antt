@@ -13,8 +13,8 @@ use Rattle.block.specs.Open.{opening, valueBytes, TrueBlock}
 use Rattle.dealing.specs.Deal.{Deal, askedOf, heldBy, pieceValues, label, blockOf, card}
 use Rattle.dealing.specs.Dealt.{Made, blockCount, dealing, dealtInto}
 
--- "A card depends on the policy, the deal number, the holder and the pieces held, and on nothing else." (Of the policy, not on the
--- forbidden sets.)
+-- SCOPE 4: deals that agree in policy, deal number, holder, and in the pieces that this holder has, agree in this card. (Of the policy,
+-- only n and the required list count.)
 abbrev pub CardDepends : Type 0
 CardDepends = (d d′ : Deal) (holder : ℕ)
     → askedOf d holder ≡ askedOf d′ holder
@@ -29,7 +29,7 @@ BlocksOpen = (d : Deal) → Made d → (holder j : ℕ) → 1 ≤ holder → hol
     × (opening (blockOf d holder j ++ rest) ≡ done (run (heldAt (label d holder j) (pieceValues d j)) 1 7))
     × (valueBytes (blockOf d holder j ++ rest) ≡ bytesOf (pieceValues d j))
 
--- "A card is one block of 512 bytes for each piece held."
+-- SCOPE 4: for each piece that the holder has, the card has a block, of 512 bytes.
 abbrev pub CardLength : Type 0
 CardLength = (d : Deal) (holder : ℕ) → length (card d holder) ≡ 512 * blockCount d holder
 
@@ -38,11 +38,11 @@ abbrev pub DealsAll : Type 0
 DealsAll = (d : Deal) → Made d → (holder : ℕ) → 1 ≤ holder → holder ≤ d .policy .people → (room : ℕ) → 512 * blockCount d holder ≤ room
     → dealing d holder room ≡ done (blockCount d holder)
 
--- "A refusal changes nothing lent."
+-- SCOPE 6.4: refused, dealing leaves what was lent as before.
 abbrev pub RefusalKeeps : Type 0
 RefusalKeeps = (d : Deal) (holder : ℕ) (out : List ℕ) (m a b : ℕ) → dealing d holder (length out) ≡ refused m a b → dealtInto d holder out ≡ out
 
--- "A result writes only the first 512 × blocks bytes .. the rest stays": those bytes are the card.
+-- SCOPE 6.4: after a result, 512 bytes for each block stand at the front, and they are the card; what lies behind is as before.
 abbrev pub ResultWrites : Type 0
 ResultWrites = (d : Deal) (holder : ℕ) (out : List ℕ) (blocks : ℕ) → dealing d holder (length out) ≡ done blocks
     → (blocks ≡ blockCount d holder)

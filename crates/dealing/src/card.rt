@@ -1,4 +1,4 @@
-// A holder's card, block by block, from the table of rows: a person holds the pieces whose row does not mark that person.
+// A holder's card, block by block, from the table of rows: the holder has a piece whose row does not mark the holder.
 use crate::Asked;
 use answer::Answer;
 use answer::Kind;

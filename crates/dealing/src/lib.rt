@@ -1,5 +1,5 @@
-// Dealing: one holder's card (document 01, "From secret to pieces", "The card block"; refusals 1 to 12).
-// The definitions that the contracts cite are in specs/, in document 01's words and order.
+// Dealing: one holder's card (SCOPE 3 and 4; refusals 1 to 12).
+// The definitions that the contracts cite are in specs/, in SCOPE's terms and order.
 mod card;
 mod checks;
 

@@ -54,7 +54,7 @@ through-points cs ys t = run-is (λ j. value cs j % p) (length cs) ys (sym (t .d
 pub joined-value : (cs ys : List ℕ) → Through cs ys → joined ys ≡ value cs 0 % p
 joined-value cs ys t = ap joined (through-points cs ys t) ∙ joined-points cs
 
--- there is at most one polynomial of degree below k through k points
+-- through k points goes at most one polynomial of degree less than k
 pub through-one : (cs ds ys : List ℕ) → length ys < p → Through cs ys → Through ds ys → cs ≡ ds
 through-one cs ds ys l t u =
     coefficients cs ds (t .degree ∙ sym (u .degree)) (omega (arith, t .degree)) (t .below) (u .below)

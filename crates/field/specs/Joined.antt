@@ -1,5 +1,5 @@
--- The joined word of k pieces, by differences. What it means is the law JoinedOne: "the value at 0 of the one polynomial of degree below k
--- through (1, piece 1) to (k, piece k)". Assumes nothing.
+-- The joined word of k pieces, by differences. What it means is the law JoinedOne (SCOPE 3): the polynomial of degree less than k that has
+-- piece j as its value at j, for each j of 1 to k, has this word as its value at 0. Assumes nothing.
 use mathlib.Core.List.{List, [], _∷_}
 use Prim.Native.Nat.{ℕ, zero, suc}
 use lib.ListN.{length}

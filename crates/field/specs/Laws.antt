@@ -16,13 +16,13 @@ use Rattle.field.specs.Lagrange.{Weights, weightsOf}
 use Rattle.field.specs.Added.{added}
 use Rattle.field.specs.Secret.{column, secretOf}
 
--- "taken in order from the lent randomness: those of word 1 first, then word 2": with q coefficients for each, word i has those after the
--- first (i−1)·q.
+-- SCOPE 3: coefficients are read off the lent randomness from its front, one word after the other. With q for each, word i has those after
+-- the first (i−1)·q.
 abbrev pub ValuesAt : Type 0
 ValuesAt = (q : ℕ) (ds rs : List ℕ) (j i : ℕ) → 1 ≤ i → i ≤ length ds
     → getD (values q ds rs j) (i - 1) 0 ≡ piece (getD ds (i - 1) 0) (take q (drop ((i - 1) * q) rs)) j
 
--- Every coefficient may be zero, the highest too: zeros alone are randomness like any other.
+-- SCOPE 3: any of the coefficients may be zero, a(k−1) as well. Zeros alone are randomness like any other.
 abbrev pub ZerosToo : Type 0
 ZerosToo = (w k : ℕ) → Random w k (replicate (w * (k - 1)) 0)
 
@@ -30,8 +30,8 @@ ZerosToo = (w k : ℕ) → Random w k (replicate (w * (k - 1)) 0)
 abbrev pub ValuesFit : Type 0
 ValuesFit = (q : ℕ) (ds rs : List ℕ) (j : ℕ) → (length (values q ds rs j) ≡ length ds) × Below (values q ds rs j)
 
--- "Each secret word is the value at 0 of the one polynomial of degree below k through (1, piece 1) to (k, piece k)": for any k pieces there
--- is one such polynomial and no other, and the joined word is its value at 0.
+-- SCOPE 3: for any k pieces, exactly one polynomial of degree less than k has piece 1 as its value at 1, piece 2 at 2, and so on up to k.
+-- The joined word is its value at 0.
 abbrev pub JoinedOne : Type 0
 JoinedOne = (ys : List ℕ) → Below ys → length ys < p → (cs : List ℕ) × One (λ ds. Through ds ys) cs × (joined ys ≡ value cs 0)
 
@@ -54,8 +54,8 @@ pub record Loose (k m : ℕ) (cs : List ℕ) : Type 0 where
 abbrev pub LooseSome : Type 0
 LooseSome = (k m : ℕ) → k < p → 1 ≤ m → m ≤ k → (cs : List ℕ) × Loose k m cs
 
--- Demand 3's "pairing of randomness with randomness is one to one": whichever piece m is lacking, and for any two secrets of as many words,
--- there is one, with its inverse, under which every other piece has the same values.
+-- For demand 3: whichever piece m is lacking, the randomness of any two secrets of as many words stands in pairs, by a map and its inverse,
+-- so that every other piece has the same values.
 abbrev pub PairedSome : Type 0
 PairedSome = (k m : ℕ) (ds ds′ : List ℕ) → k < p → 1 ≤ m → m ≤ k → length ds ≡ length ds′ → Paired k m ds ds′
 
@@ -64,8 +64,8 @@ abbrev pub NoneFavoured : Type 1
 NoneFavoured = (X Y W : Type 0) (A : X → Type 0) (B : Y → Type 0) (one : X → W → List ℕ) (other : Y → W → List ℕ) (member : W → Type 0)
     → Hidden A B one other member → (c : W → List ℕ) → Matched (Gives A one member c) (Gives B other member c)
 
--- "so with even randomness the cards favour no secret": whatever values the pieces but m have, any two secrets of as many words have equally
--- many lists of randomness that give them.
+-- So no secret is likelier than another: whatever values the pieces but m have, any two secrets of as many words have equally many lists of
+-- randomness that give them.
 abbrev pub HiddenGives : Type 0
 HiddenGives = (k m : ℕ) (v : ℕ → List ℕ) (ds ds′ : List ℕ) → k < p → 1 ≤ m → m ≤ k → length ds ≡ length ds′
     → Matched (GivesValues k m v ds) (GivesValues k m v ds′)
@@ -87,8 +87,8 @@ abbrev pub ValuesAdded : Type 0
 ValuesAdded = (q : ℕ) (ds ds′ rs rs′ : List ℕ) (j : ℕ) → length ds ≡ length ds′ → length rs ≡ length rs′
     → values q (added ds ds′) (added rs rs′) j ≡ added (values q ds rs j) (values q ds′ rs′ j)
 
--- The secret of k pieces has w words, each one of 0 to 32748, and word i is the value at 0 of the one polynomial of degree below k that has
--- value i of piece j at j, for each piece 1 to k.
+-- The secret of k pieces has w words, each one of 0 to 32748. For word i there is one polynomial of degree less than k that has value i of
+-- piece j at j, for each piece 1 to k; the word is its value at 0.
 abbrev pub SecretOne : Type 0
 SecretOne = (v : ℕ → ℕ → ℕ) (k w : ℕ) → k < p → ((j i : ℕ) → 1 ≤ j → j ≤ k → 1 ≤ i → i ≤ w → v j i < p)
     → (length (secretOf v k w) ≡ w)

@@ -1,4 +1,4 @@
--- Document 01, "From secret to pieces", for a secret of several words; and what it is that a deal hides its secret.
+-- From secret to pieces (SCOPE 3), for a secret of several words; and what it is that a deal hides its secret.
 -- Assumes nothing.
 use mathlib.Core.Path.{_≡_}
 use mathlib.Core.Logic.{_≢_}
@@ -9,13 +9,13 @@ use Rattle.prime.specs.Prime.{Below}
 use Rattle.field.specs.Poly.{piece}
 use Rattle.field.specs.Hiding.{Hidden, Gives}
 
--- the values of piece j, one for each secret word of ds: for each there are q coefficients "taken in order from the lent randomness: those
--- of word 1 first, then word 2". They are used as they are lent, none of them reduced.
+-- the values of piece j, one for each secret word of ds: each word has q coefficients of its own, read off the lent randomness from its
+-- front, one word after the other. They are used as they stand; none is reduced (SCOPE 3).
 unfoldable pub values : ℕ → List ℕ → List ℕ → ℕ → List ℕ
 values q [] rs j = []
 values q (d ∷ ds) rs j = piece d (take q rs) j ∷ values q ds (drop q rs) j
 
--- "The randomness is exactly w(k−1) words, each 0 to 32748, never reduced": any such list, zeros too
+-- SCOPE 3: w·(k−1) random words, not one more or less, each of 0 to 32748: any such list, zeros too
 pub record Random (w k : ℕ) (rs : List ℕ) : Type 0 where
   pub count : length rs ≡ w * (k - 1)
   pub below : Below rs

@@ -1,4 +1,4 @@
--- Document 01, "From secret to pieces", for one word: polynomials mod 32749, their values and their pieces.
+-- From secret to pieces (SCOPE 3), for one word: polynomials mod 32749, their values and their pieces.
 -- Assumes nothing.
 use mathlib.Core.Path.{_≡_}
 use mathlib.Core.List.{List, [], _∷_}
@@ -12,8 +12,7 @@ unfoldable pub value : List ℕ → ℕ → ℕ
 value [] x = 0
 value (c ∷ cs) x = c + x * value cs x
 
--- "Piece j of that word is d + a1·j + a2·j² + .. + a(k−1)·j^(k−1) mod p": the word d, the coefficients cs. Every coefficient, the
--- highest too, may be zero.
+-- SCOPE 3: piece j of the word d, whose coefficients a(1), .., a(k−1) are cs; any of them may be zero
 abbrev pub piece : ℕ → List ℕ → ℕ → ℕ
 piece d cs j = value (d ∷ cs) j % p
 
@@ -21,7 +20,7 @@ piece d cs j = value (d ∷ cs) j % p
 abbrev pub points : List ℕ → ℕ → ℕ → List ℕ
 points cs x n = run (λ j. value cs j % p) x n
 
--- cs is a polynomial of degree below k "through (1, piece 1) to (k, piece k)", where ys are the k pieces: k coefficients
+-- cs is a polynomial of degree less than k that has piece 1 as its value at 1, and so on up to k, where ys are the k pieces: k coefficients
 pub record Through (cs ys : List ℕ) : Type 0 where
   pub degree : length cs ≡ length ys
   pub below : Below cs

@@ -99,7 +99,7 @@ module _ (n : ℕ) (required : List ℕ) where
       let around : inside g (groupOf n required (p .0)) ≡ true = rw (p .3) (m .3) in
       (p .0, p .1, p .2, around, λ i l k t. rw (inside-at g (groupOf n required (p .0)) around i l (omega arith) t))
 
-  -- ---- a group is authorised exactly when its members together hold every piece
+  -- ---- the members of a group have every piece between them exactly when it is authorised
   pub gathers : n ≤ 8 → (g : ℕ) → g < 2 ^ n
       → (authorised required g ≡ true)
       ↔ ((j : ℕ) → 1 ≤ j → j ≤ pieceCount n required → (i : ℕ) × (1 ≤ i) × (i ≤ n) × (member i g ≡ true) × (holds n required i j ≡ true))

@@ -1,4 +1,4 @@
--- What lists that pass refusals 1 to 5 have. Assumes nothing.
+-- What lists have on which refusals 1 to 5 pass. Assumes nothing.
 use mathlib.Core.Path.{_≡_}
 use native.Mathlib.Omega.{arith}
 use lib.Dec.{eqb, ltb}

@@ -124,7 +124,7 @@ pub no-marks : (i j : ℕ) → marked (rowsOf []) j i ≡ false
 unfolding rowsOf
 no-marks i j = past [] 70 (j - 1) (i - 1) zero-le
 
--- ---- a field that is an array of arrays is read by its laws as the rows mapped by the identity, twice: that is the rows
+-- ---- a field of rows is read by its laws as the rows mapped by the identity, twice: that is the rows
 row-id : (l : List Bool) → map (λ v. v) l ≡ l
 row-id [] = refl
 row-id (b ∷ l) = ap (λ (k : List Bool). b ∷ k) (row-id l)

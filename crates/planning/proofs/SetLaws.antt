@@ -147,7 +147,7 @@ inside-test a b h = ⊎-elim (λ (t : inside a b ≡ true). eq-eqb _ _ (same t) 
     part : bitAnd a b ≡ a → inside a b ≡ true
     part q = inside-of a b (λ i l h m. bit-member i b (omega (arith, and-inside a b q (i - 1), member-bit i a m, bit-lt (i - 1) b)))
 
--- ---- a set names a person above n: a number above 0 has a digit 1
+-- ---- somebody in a set has a number greater than n: a number above 0 has a digit 1
 some-bit : (k x : ℕ) → 0 < x → x < 2 ^ k → (p : ℕ) × (bit p x ≡ 1)
 some-bit zero x h l = absurd (omega arith)
 some-bit (suc k) x h l =

@@ -19,7 +19,7 @@ use Rattle.planning.specs.Policy.{Policy, policyOf}
 use Rattle.planning.specs.Planned.{listLines, planned, plannedRows}
 
 -- ---- what the numbers mean
--- A set names a person above n exactly when one is in it.
+-- A set has a stranger exactly when somebody in it has a number from n + 1 to 16.
 abbrev pub StrangerMeans : Type 0
 StrangerMeans = (n s : ℕ) → s < 2 ^ 16 → (stranger n s ≡ true) ↔ ((i : ℕ) × (n < i) × (i ≤ 16) × (member i s ≡ true))
 
@@ -27,7 +27,7 @@ StrangerMeans = (n s : ℕ) → s < 2 ^ 16 → (stranger n s ≡ true) ↔ ((i :
 abbrev pub InsideMeans : Type 0
 InsideMeans = (a b : ℕ) → a < 2 ^ 16 → (inside a b ≡ true) ↔ ((i : ℕ) → 1 ≤ i → member i a ≡ true → member i b ≡ true)
 
--- ---- lists that pass refusals 1 to 5
+-- ---- lists on which refusals 1 to 5 pass
 pub record Listed (p : Policy) : Type 0 where
   pub somebody : 1 ≤ p .people
   pub few : p .people ≤ 8
@@ -43,8 +43,8 @@ abbrev pub ListedMeans : Type 0
 ListedMeans = (p : Policy) → Passed (listLines p) → Listed p
 
 -- ---- the clash rule (000, Theorem 2)
--- A family of groups, F g being that it holds g: "it holds every required set, holds no forbidden set, and holds every larger group of each
--- group it holds".
+-- SCOPE 2: the three properties of a family of groups, F g being that g is in it. Each required set is in it; no forbidden set is; and with
+-- a group, every group around that one is.
 pub record Suits (p : Policy) (F : ℕ → Type 0) : Type 0 where
   pub required-in : (s : ℕ) → s ∈ p .required → F s
   pub forbidden-out : (s : ℕ) → s ∈ p .forbidden → F s → ⊥
@@ -54,7 +54,7 @@ pub record Suits (p : Policy) (F : ℕ → Type 0) : Type 0 where
 abbrev pub Clashes : Policy → Type 0
 Clashes p = (a : ℕ) × (b : ℕ) × (planned p ≡ refused (number Clash) a b)
 
--- "For lists that pass refusals 1 to 5, CLASH is given exactly when no family of groups has all of these." Where it is given, no family at
+-- SCOPE 2: let refusals 1 to 5 pass; then CLASH is the answer exactly if no family has these properties. Where it is given, no family at
 -- all has them; where it is not, one that is a test has them.
 abbrev pub ClashFamilies : Type 1
 ClashFamilies = (p : Policy) → Passed (listLines p)
@@ -62,7 +62,7 @@ ClashFamilies = (p : Policy) → Passed (listLines p)
     × ((Clashes p → ⊥) → (F : ℕ → Bool) × Suits p (λ g. F g ≡ true))
     × (Clashes p ↔ ((F : ℕ → Bool) → Suits p (λ g. F g ≡ true) → ⊥))
 
--- CLASH's places: "lowest required place, then lowest forbidden place"
+-- CLASH's places: of the first required set inside a forbidden one, and of the first forbidden set around it
 abbrev pub ClashPlaces : Type 0
 ClashPlaces = (p : Policy) (a b : ℕ) → planned p ≡ refused (number Clash) a b
     → IsFirst (λ i. some (inside (at (p .required) i)) (p .forbidden)) 1 (length (p .required) + 1) a
@@ -78,7 +78,7 @@ GroupsAre = (n : ℕ) (required : List ℕ) (g : ℕ)
 abbrev pub GroupsRise : Type 0
 GroupsRise = (n : ℕ) (required : List ℕ) (i j : ℕ) → 1 ≤ i → i < j → j ≤ pieceCount n required → groupOf n required i < groupOf n required j
 
--- "the pieces held": those of 1 to k that the person holds, and no others.
+-- What a person has: the pieces of 1 to k that the person holds, and no others.
 abbrev pub HeldAre : Type 0
 HeldAre = (n : ℕ) (required : List ℕ) (i j : ℕ)
     → (j ∈ held n required i) ↔ ((1 ≤ j) × (j ≤ pieceCount n required) × (holds n required i j ≡ true))
@@ -105,7 +105,7 @@ abbrev pub SomePiece : Type 0
 SomePiece = (p : Policy) (k : ℕ) → planned p ≡ done k
     → (k ≡ pieceCount (p .people) (p .required)) × (1 ≤ k) × (k ≤ 70)
 
--- "Forbidden sets decide only refusal; they never change the holdings of an accepted policy."
+-- SCOPE 2: two accepted policies that differ in the forbidden list alone have the same pieces and holdings.
 abbrev pub ForbiddenFree : Type 0
 ForbiddenFree = (p : Policy) (others : List ℕ) (k l : ℕ) → let q = policyOf (p .people) (p .required) others in
     planned p ≡ done k → planned q ≡ done l → (k ≡ l) × (plannedRows p ≡ plannedRows q)
@@ -116,7 +116,7 @@ RowsMean = (p : Policy) (k : ℕ) → planned p ≡ done k → (i j : ℕ) → 1
     → (j ≤ k → marked (plannedRows p) j i ≡ member i (groupOf (p .people) (p .required) j))
     × (k < j → marked (plannedRows p) j i ≡ false)
 
--- "a refused plan has only empty rows"
+-- SCOPE 6.1: where the plan is refused, no row marks anybody.
 abbrev pub RefusedRows : Type 0
 RefusedRows = (p : Policy) (m a b : ℕ) → planned p ≡ refused m a b
     → (i j : ℕ) → marked (plannedRows p) j i ≡ false

@@ -1,4 +1,4 @@
--- What planning answers: document 01, "Numbered refusals and their order", 1 to 7, and the table of rows.
+-- What planning answers: SCOPE 6, refusals 1 to 7, and the table of rows.
 -- Assumes nothing.
 use mathlib.Core.Bool.{Bool, _||_}
 use mathlib.Core.List.{List, [], _∷_, _++_}
@@ -13,41 +13,41 @@ use Rattle.planning.specs.Sets.{inside, stranger}
 use Rattle.planning.specs.Policy.{Policy}
 use Rattle.planning.specs.Groups.{groups, pieceCount, rowsOf}
 
--- 1 PEOPLE: "n is 0 or above 8"
+-- 1 PEOPLE: there are no people, or more than 8
 unfoldable pub people : ℕ → Line
 people n = line People (eqb n 0 || ltb 8 n) 0 0
 
--- 2 LONGLIST: "a list has over 256 sets"; a: the list, 1 required, 2 forbidden
+-- 2 LONGLIST: more than 256 sets stand in a list; a is 1 for the required list, 2 for the forbidden one
 unfoldable pub long : ℕ → List ℕ → Line
 long list sets = line LongList (ltb 256 (length sets)) list 0
 
--- 3 STRANGER: "a set names a person above n"; the list, the place in it
+-- 3 STRANGER: somebody in a set has a number greater than n; a is the list, b the place of the first such set
 unfoldable pub strangers : ℕ → ℕ → List ℕ → Line
 strangers n list sets = line Stranger (found (firstPlace (stranger n) sets)) list (firstPlace (stranger n) sets)
 
--- 4 NOBODY: "the required list is empty"
+-- 4 NOBODY: no set is required
 unfoldable pub nobody : List ℕ → Line
 nobody required = line Nobody (eqb (length required) 0) 0 0
 
--- 5 OPEN: "a required set is empty"; a: its place
+-- 5 OPEN: the empty set is required; a is its first place
 unfoldable pub opens : List ℕ → Line
 opens required = line Open (found (firstPlace (eqb 0) required)) (firstPlace (eqb 0) required) 0
 
--- the lowest forbidden place of a set around the set s, or 0
+-- the place of the first forbidden set around the set s, or 0
 abbrev pub aroundPlace : List ℕ → ℕ → ℕ
 aroundPlace forbidden s = firstPlace (inside s) forbidden
 
--- the lowest required place of a set that lies inside some forbidden set, or 0
+-- the place of the first required set inside a forbidden one, or 0
 unfoldable pub clashPlace : List ℕ → List ℕ → ℕ
 clashPlace required forbidden = firstPlace (λ r. found (aroundPlace forbidden r)) required
 
--- 6 CLASH: "some required set lies inside some forbidden set, equality included"; "lowest required place, then lowest forbidden place"
+-- 6 CLASH: a required set lies inside a forbidden one, or equals it; a is the first such required set, b the first forbidden set around it
 unfoldable pub clash : List ℕ → List ℕ → Line
 clash required forbidden =
     line Clash (found (clashPlace required forbidden)) (clashPlace required forbidden)
     (aroundPlace forbidden (at required (clashPlace required forbidden)))
 
--- 7 WIDE: "more than 70 maximal groups"
+-- 7 WIDE: there are over 70 maximal groups
 unfoldable pub wide : List ℕ → Line
 wide maximals = line Wide (ltb 70 (length maximals)) 0 0
 
@@ -63,7 +63,7 @@ listLines p =
     ∷ opens (p .required)
     ∷ []
 
--- "Planning checks 1 to 7."
+-- 1 to 7, in the order of SCOPE 6.3
 unfoldable pub planLines : Policy → List Line
 planLines p = listLines p ++ clash (p .required) (p .forbidden) ∷ wide (groups (p .people) (p .required)) ∷ []
 
@@ -71,7 +71,7 @@ planLines p = listLines p ++ clash (p .required) (p .forbidden) ∷ wide (groups
 unfoldable pub planned : Policy → Outcome ℕ
 planned p = firstFail (planLines p) (done (pieceCount (p .people) (p .required)))
 
--- "Rows past k are empty; a refused plan has only empty rows."
+-- SCOPE 6.1: the rows of the groups; where the plan is refused, no row marks anybody
 abbrev pub rowsFor : Outcome ℕ → List ℕ → List (List Bool)
 rowsFor (done k) maximals = rowsOf maximals
 rowsFor (refused m a b) maximals = rowsOf []

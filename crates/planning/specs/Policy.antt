@@ -2,7 +2,7 @@
 use mathlib.Core.List.{List}
 use Prim.Native.Nat.{ℕ}
 
--- how many people there are, the sets that must be able to open, and the sets that must not
+-- SCOPE 2: how many people there are, the required sets, and the forbidden sets
 pub record Policy : Type 0 where
   pub people : ℕ
   pub required : List ℕ

@@ -1,4 +1,4 @@
--- Sets of people: "A set is a 16-bit number: person i is worth 2^(i−1)." People are numbered from 1.
+-- Sets of people (SCOPE 1): numbers of 16 bits, in which the bit of person i has the value 2^(i−1). The first person is 1.
 -- Assumes nothing.
 use mathlib.Core.Bool.{Bool, not, _||_}
 use mathlib.Core.List.{List, [], _∷_}
@@ -14,11 +14,11 @@ worth i = 2 ^ (i - 1)
 unfoldable pub member : ℕ → ℕ → Bool
 member i s = eqb (s / worth i % 2) 1
 
--- the set a lies inside the set b, equality included: each person of a is in b
+-- the set a lies inside the set b, or equals it: each person of a is in b
 unfoldable pub inside : ℕ → ℕ → Bool
 inside a b = each 16 (λ i. not (member i a) || member i b)
 
--- the set s names a person above n
+-- somebody in the set s has a number greater than n
 unfoldable pub stranger : ℕ → ℕ → Bool
 stranger n s = leb (2 ^ n) s
 

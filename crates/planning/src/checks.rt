@@ -14,7 +14,7 @@ ghost use Rattle.planning.specs.Sets.{stranger};
 ghost use Rattle.planning.specs.Policy.{policyOf};
 ghost use Rattle.planning.specs.Planned.{aroundPlace, clashPlace, clash, listLines};
 
-// The place of the first set that names a person above the number of people, or 0.
+// The place of the first set with somebody in it whose number is greater than that of the people, or 0.
 fn first_stranger(people: usize, list: &[u16]) -> usize
     requires { ⌜ people ≤ 8 ⌝ }
     ensures { λ r. ⌜ r ≡ firstPlace (stranger people) (now (list .entry)) ⌝ }
@@ -58,7 +58,7 @@ fn first_around(s: u16, forbidden: &[u16]) -> usize
     0
 }
 
-// The place of the first required set that lies inside some forbidden set, or 0.
+// The place of the first required set inside a forbidden one, or 0.
 fn first_clash(required: &[u16], forbidden: &[u16]) -> usize
     ensures { λ r. ⌜ r ≡ clashPlace (now (required .entry)) (now (forbidden .entry)) ⌝ }
 {

@@ -26,7 +26,7 @@ pub fn flags(people: usize, required: &[u16]) -> [bool; 256]
     f
 }
 
-// The group g is unauthorised, and adding any of the people not in it makes it authorised, going by the flags.
+// The group g is unauthorised, and turns authorised by one more of the people, whoever of the others that is, going by the flags.
 fn maximal(f: &[bool; 256], people: usize, g: usize) -> bool
     requires { ⌜ (people ≤ 8) × (g < 2 ^ people) ⌝ }
     ensures { λ r. ⌜ r ≡ maximalBy (flagged (now (f .entry))) people g ⌝ }

@@ -27,7 +27,7 @@ pub fn marks(g: u16) -> [bool; 8]
     ]
 }
 
-// The group g contains some required set.
+// Some required set lies inside the group g.
 pub fn authorised(required: &[u16], g: u16) -> bool
     ensures { λ r. ⌜ r ≡ authorised (now (required .entry)) g ⌝ }
 {

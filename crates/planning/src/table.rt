@@ -1,8 +1,8 @@
-// A plan: planning's answer and its table. A field that is an array of arrays is made and read by thin functions, proved by hand.
+// A plan: planning's answer and its table. The table, an array of arrays, is made and read by thin functions, proved by hand.
 use answer::Answer;
 ghost use mathlib.Core.Path.{_≡_};
 
-// What planning answers, k or a refusal, with the table of rows: a row of member marks for each piece.
+// What planning answers, k or a refusal, with the table of rows: row j marks the people in the group of piece j (SCOPE 6.1).
 pub struct Plan {
     pub answer: Answer,
     pub rows: [[bool; 8]; 70],
