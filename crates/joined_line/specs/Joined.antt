@@ -1,4 +1,4 @@
--- What the joining program prints: "over 65,536 bytes is LONG there, before any other check. It prints one line".
+-- What the joining program prints (SCOPE 7.3): the line of the secret or of the refusal. Too many bytes are LONG, whatever else is wrong.
 -- Assumes nothing.
 use mathlib.Core.List.{List, [], _∷_}
 use Prim.Native.Nat.{ℕ}
@@ -11,7 +11,7 @@ use Rattle.joining.specs.Joined.{joining}
 use Rattle.joining.specs.Secret.{secret}
 use Rattle.print.specs.Lines.{refusedLine, secretLine}
 
--- 14 LONG, of the program: over 65,536 bytes
+-- 14 LONG, of the program: more than 65,536 bytes
 abbrev pub tooLong : List ℕ → Line
 tooLong pile = line Long (ltb 65536 (length pile)) 0 0
 
@@ -19,7 +19,7 @@ tooLong pile = line Long (ltb 65536 (length pile)) 0 0
 unfoldable pub programJoins : List ℕ → Outcome ℕ
 programJoins pile = firstFail (tooLong pile ∷ []) (joining pile 16)
 
--- "`secret` and the w words in decimal, a space before each; or .. `refused 20 2 3`: number, a, b"
+-- the line of the secret, or the line of the refusal
 abbrev pub lineOf : Outcome ℕ → List ℕ → List ℕ
 lineOf (done w) words = secretLine words
 lineOf (refused m a b) words = refusedLine m a b

@@ -1,4 +1,4 @@
--- The secret words of a pile that joins are the values at 0 of the one polynomial through the pieces of its blocks.
+-- For each word of a pile that joins, one polynomial goes through the pieces of its blocks; the word is its value at 0.
 -- Assumes nothing.
 use mathlib.Core.Path.{_≡_, sym, ap, _∙_}
 use mathlib.Core.List.{List}

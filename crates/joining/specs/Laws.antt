@@ -38,12 +38,12 @@ JoinsThen = (pile : List ℕ) (room w : ℕ) → Joins pile room w → joining p
 abbrev pub ThenJoins : Type 0
 ThenJoins = (pile : List ℕ) (room w : ℕ) → joining pile room ≡ done w → Joins pile room w
 
--- "some piece of 1 to k missing", "distinct pieces present, k": a sound pile that lacks a piece is SHORT.
+-- SCOPE 6, refusal 20: a sound pile that lacks one of the pieces 1 to k is SHORT, with how many different ones it has, and k.
 abbrev pub LacksThen : Type 0
 LacksThen = (pile : List ℕ) (room j : ℕ) → Sound pile → 1 ≤ blocks pile → 1 ≤ j → j ≤ ownPieces pile → placeOf pile j ≡ 0
     → joining pile room ≡ refused 20 (length (present pile)) (ownPieces pile)
 
--- "A pile of no blocks is SHORT with 0, 0."
+-- SCOPE 6.3: a pile without a block gets SHORT with a = 0 and b = 0.
 abbrev pub NoBlocks : Type 0
 NoBlocks = (pile : List ℕ) (room : ℕ) → length pile ≡ 0 → joining pile room ≡ refused 20 0 0
 
@@ -54,13 +54,13 @@ ConflictByFirst = (pile : List ℕ) → conflictAt pile ≡ firstBlock pile (λ 
 abbrev pub ConflictWithFirst : Type 0
 ConflictWithFirst = (pile : List ℕ) → conflictAt pile ≢ 0 → contradictedBy pile (conflictAt pile) ≡ placeOf pile (pieceAt pile (conflictAt pile))
 
--- cs are the coefficients of a polynomial of degree below k through (j, value i of piece j), for every block of the pile
+-- cs are the coefficients of a polynomial of degree less than k that has value i of piece j at j, for every block of the pile
 pub record Fits (pile : List ℕ) (i : ℕ) (cs : List ℕ) : Type 0 where
   pub degree : length cs ≡ ownPieces pile
   pub below : Below cs
   pub meets : (a : ℕ) → In pile a → valueOf pile a i ≡ value cs (pieceAt pile a) % p
 
--- "Each secret word is the value at 0 of the one polynomial of degree below k through (1, piece 1) to (k, piece k)."
+-- SCOPE 3, joining a word: one polynomial of degree less than k has the pieces as its values at 1 to k; the word is its value at 0.
 abbrev pub JoinedSecret : Type 0
 JoinedSecret = (pile : List ℕ) (room w i : ℕ) → joining pile room ≡ done w → 1 ≤ i → i ≤ w
     → (cs : List ℕ) × One (Fits pile i) cs × (getD (secret pile) (i - 1) 0 ≡ value cs 0)
@@ -82,16 +82,16 @@ OrderFree = (pile other : List ℕ) (room w : ℕ) → joining pile room ≡ don
 pub record Within (pile other : List ℕ) : Type 0 where
   pub block : (a : ℕ) → In pile a → (b : ℕ) × In other b × ((i : ℕ) → 1 ≤ i → i ≤ 256 → word pile a i ≡ word other b i)
 
--- The same blocks in any order, repeats allowed, give the same answer and the same secret.
+-- The same blocks in another order, and repeated at will, give the same answer and the same secret.
 abbrev pub AnyOrder : Type 0
 AnyOrder = (pile other : List ℕ) (room w : ℕ) → joining pile room ≡ done w → length other % 512 ≡ 0 → blocks other ≤ 560
     → Within pile other → Within other pile → (joining other room ≡ done w) × (secret other ≡ secret pile)
 
--- "A result writes only .. the first w words; the rest stays."
+-- SCOPE 6.4: after a result, joining has written w words, from the front; what lies behind is as before.
 abbrev pub ResultWrites : Type 0
 ResultWrites = (pile old : List ℕ) (w : ℕ) → joining pile (length old) ≡ done w
     → (length (secret pile) ≡ w) × (joinedInto pile old ≡ secret pile ++ drop w old)
 
--- "A refusal changes nothing lent."
+-- SCOPE 6.4: refused, joining leaves what was lent as before.
 abbrev pub RefusalKeeps : Type 0
 RefusalKeeps = (pile old : List ℕ) (m a b : ℕ) → joining pile (length old) ≡ refused m a b → joinedInto pile old ≡ old

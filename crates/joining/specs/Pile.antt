@@ -1,4 +1,4 @@
--- What joining reads off a pile: the deal it is of, where its pieces lie, and their values. Blocks and words count from 1.
+-- What joining reads off a pile: the deal it is of, where its pieces lie, and their values. Blocks and words are counted from 1.
 -- Assumes nothing.
 use Prim.Native.Nat.{ℕ, _+_}
 use mathlib.Core.Bool.{Bool, not}

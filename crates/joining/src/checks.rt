@@ -138,7 +138,7 @@ fn check_whole(pile: &[u8]) -> Answer
     Answer::Done(0)
 }
 
-// All checks of a pile. One of no blocks is SHORT with 0 and 0.
+// All checks of a pile. Without a block it is SHORT with 0 and 0.
 pub fn check_pile(pile: &[u8]) -> Answer
     ensures { λ r. ⌜ outcome r ≡ firstFail (pileLines (now (pile .entry))) (done 0) ⌝ }
 {

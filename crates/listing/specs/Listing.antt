@@ -1,4 +1,4 @@
--- The listing: document 01, "The two programs".
+-- The listing (SCOPE 7.2).
 -- Assumes nothing.
 use mathlib.Core.Bool.{Bool, not}
 use mathlib.Core.List.{List, [], _∷_, _++_}
@@ -39,25 +39,24 @@ holderLabel = 104 ∷ 111 ∷ 108 ∷ 100 ∷ 101 ∷ 114 ∷ []
 abbrev pub hasLabel : List ℕ
 hasLabel = 32 ∷ 104 ∷ 97 ∷ 115 ∷ []
 
--- "The first line gives n and k."
+-- the first line: n and k
 unfoldable pub firstLine : ℕ → ℕ → List ℕ
 firstLine n k = label peopleLabel n piecesLabel ++ spaced k ++ feed
 
--- "A piece line gives the people who lack that piece": piece j, those of the n people with the test; "an empty list ends the line after
--- `missing`"
+-- the line of piece j: those of the n people with the test, who lack it; where there are none, the line feed stands right behind `missing`
 unfoldable pub pieceLine : (ℕ → Bool) → ℕ → ℕ → List ℕ
 pieceLine lacks n j = label pieceLabel j missingLabel ++ spacedAll (those lacks 1 n) ++ feed
 
--- "a holder line the pieces held": holder i, those of the k pieces with the test
+-- the line of holder i: those of the k pieces with the test, which the holder has
 unfoldable pub holderLine : (ℕ → Bool) → ℕ → ℕ → List ℕ
 holderLine has k i = label holderLabel i hasLabel ++ spacedAll (those has 1 k) ++ feed
 
--- the lines of the numbers 1 to n, "in rising number"
+-- the lines of the numbers 1 to n, in this order
 unfoldable pub rising : (ℕ → List ℕ) → ℕ → List ℕ
 rising line zero = []
 rising line (suc n) = rising line n ++ line (suc n)
 
--- "Then come pieces and holders": n people, k pieces; lacks j i: person i lacks piece j; has i j: person i has piece j
+-- the lines in order, of n people and k pieces; lacks j i: person i lacks piece j; has i j: person i has piece j
 unfoldable pub listingBy : (ℕ → ℕ → Bool) → (ℕ → ℕ → Bool) → ℕ → ℕ → List ℕ
 listingBy lacks has n k = firstLine n k ++ rising (λ j. pieceLine (lacks j) n j) k ++ rising (λ i. holderLine (has i) k i) n
 
@@ -74,7 +73,7 @@ answered (refused m a b) lines = refusedLine m a b
 unfoldable pub listedPlan : Policy → List ℕ
 listedPlan p = answered (planned p) (listing (p .people) (p .required))
 
--- "TEXT .. comes before 1 to 7"
+-- SCOPE 7.1: TEXT is looked for before the refusals 1 to 7
 abbrev pub listedPolicy : Outcome Policy → List ℕ
 listedPolicy (done p) = listedPlan p
 listedPolicy (refused m a b) = refusedLine m a b

@@ -1,4 +1,4 @@
-// The listing that the listing program prints, written into a lent buffer (document 01, "The two programs").
+// The listing that the listing program prints (SCOPE 7.2), written into a lent buffer.
 use answer::Answer;
 ghost use mathlib.Core.Bool.{false, cond, not};
 ghost use mathlib.Core.List.{[], _∷_};

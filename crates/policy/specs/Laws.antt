@@ -87,8 +87,7 @@ pub record Written (text : List ℕ) (p : Policy) : Type 0 where
   pub required : p .required ≡ requiredAmong entries
   pub forbidden : p .forbidden ≡ forbiddenAmong entries
 
--- A text that is not refused is one that is so written: "strictly rising digits 1 to 9, one space before each, possibly none. Every line
--- ends with a line feed".
+-- A text that is not refused is one that is so written (SCOPE 7.1): nothing else may stand in a line.
 abbrev pub OnlyWritten : Type 0
 OnlyWritten = (text : List ℕ) (p : Policy) → readPolicy text ≡ done p → Written text p × (length text ≤ 16384)
 
@@ -124,6 +123,6 @@ TextRefusal = (text : List ℕ) (m a b : ℕ) → readPolicy text ≡ refused m 
 abbrev pub TextLong : Type 0
 TextLong = (text : List ℕ) (m a b : ℕ) → readPolicy text ≡ refused m a b → (a ≡ 0 → 16384 < length text) × (16384 < length text → a ≡ 0)
 
--- In a text of at most 16,384 bytes, line a is the first bad one.
+-- In a text of up to 16,384 bytes, line a is the first bad one.
 abbrev pub TextLine : Type 0
 TextLine = (text : List ℕ) (m a b : ℕ) → readPolicy text ≡ refused m a b → length text ≤ 16384 → FirstBad text a

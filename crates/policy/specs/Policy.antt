@@ -1,4 +1,4 @@
--- A policy text: document 01, "The two programs", and refusal 21.
+-- A policy text (SCOPE 7.1), and refusal 21.
 -- Assumes nothing.
 use mathlib.Core.Path.{_≡_}
 use mathlib.Core.Bool.{Bool, true, false, cond, _&&_}
@@ -51,14 +51,14 @@ abbrev pub pickFound : Bool → Found → Found → Found
 pickFound true x y = x
 pickFound false x y = y
 
--- "one digit 0 to 9" and the line feed, and no byte more
+-- one of the digits 0 to 9 and the line feed, and no byte more
 unfoldable pub oneDigit : List ℕ → Found
 oneDigit [] = Nothing
 oneDigit (d ∷ []) = Nothing
 oneDigit (d ∷ (b ∷ [])) = pickFound (leb 48 d && leb d 57 && eqb b 10) (Number (d - 48)) Nothing
 oneDigit (d ∷ (b ∷ (c ∷ rest))) = Nothing
 
--- "Line 1 is `people`, a space and one digit 0 to 9": the number of people
+-- SCOPE 7.1, line 1: the word `people`, one space, and one of the digits 0 to 9, which is the number of people
 unfoldable pub peopleIn : List ℕ → Found
 peopleIn line = pickFound (begins peopleWord line) (oneDigit (drop 7 line)) Nothing
 
@@ -71,7 +71,7 @@ needWord = 110 ∷ 101 ∷ 101 ∷ 100 ∷ []
 abbrev pub barWord : List ℕ
 barWord = 98 ∷ 97 ∷ 114 ∷ []
 
--- "strictly rising digits 1 to 9, one space before each, possibly none", and the line feed: the set of the people that they name, with
+-- people, each as one space and one of the digits 1 to 9, each digit greater than the one before it, and the line feed: their set, with
 -- those of `set`. `last` is the byte of the digit before, that of 0 before the first.
 unfoldable pub members : ℕ → ℕ → List ℕ → Found
 members last set [] = Nothing
@@ -93,7 +93,7 @@ abbrev pub bars : Found → Told
 bars (Number s) = Bar s
 bars Nothing = Bad
 
--- "then lines `need` or `bar`": what such a line says
+-- SCOPE 7.1, each other line: what it says, by its word `need` or `bar`
 unfoldable pub lineSays : List ℕ → Told
 lineSays line =
     pickTold (begins needWord line) (needs (members 48 0 (drop 4 line)))

@@ -1,4 +1,4 @@
-// Reading a policy text: line by line, each line for itself (document 01, "The two programs", refusal 21).
+// Reading a policy text: line by line, each line for itself (SCOPE 7.1, refusal 21).
 ghost use mathlib.Core.Path.{_≡_};
 ghost use mathlib.Core.List.{List, [], _∷_, _++_};
 ghost use Prim.Native.Nat.{ℕ, _+_, _-_, _≤_};
@@ -176,7 +176,7 @@ fn keep(list: Sets, set: u16) -> Sets
     list
 }
 
-// A text that is unreadable, for its bad line.
+// A text that cannot be read, for its bad line.
 fn unreadable(line: usize) -> PolicyText
     ensures { λ r. ⌜ Holds (refused (number Text) line 0) r ⌝ }
 {

@@ -23,7 +23,7 @@ abbrev pub seven : {A : Type 0} → Outcome A → Outcome ℕ
 seven (done v) = done 7
 seven (refused m a b) = refused m a b
 
--- the group whose row of member marks this is: person i is worth 2^(i−1)
+-- the group whose row of member marks this is: the bit of person i has the value 2^(i−1)
 unfoldable pub numberOf : List Bool → ℕ
 numberOf row =
     cond (getD row 0 false) 1 0 + cond (getD row 1 false) 2 0 + cond (getD row 2 false) 4 0 + cond (getD row 3 false) 8 0
