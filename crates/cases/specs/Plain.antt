@@ -1,4 +1,4 @@
--- A set, a text and an accepted policy, written so that they read as they do in document 01.
+-- A set, a text and an accepted policy, written so that they read as they do in SCOPE.
 -- Assumes nothing.
 use mathlib.Core.Path.{_≡_}
 use mathlib.Core.List.{List, [], _∷_, _++_}
@@ -13,7 +13,7 @@ use Rattle.planning.specs.Policy.{Policy}
 use Rattle.planning.specs.Planned.{planned, plannedRows}
 use Rattle.print.specs.Lines.{feed}
 
--- the set of these people: "person i is worth 2^(i−1)"
+-- the set of these people: the bit of each has its value 2^(i−1)
 unfoldable pub set : List ℕ → ℕ
 set [] = 0
 set (i ∷ others) = worth i + set others
@@ -23,7 +23,7 @@ unfoldable pub bytes : String → List ℕ
 bytes end = []
 bytes (front c rest) = code c ∷ bytes rest
 
--- the bytes of a text of these lines: "every line ends with a line feed"
+-- the bytes of a text of these lines, each ended by a line feed
 unfoldable pub textOf : List String → List ℕ
 textOf [] = []
 textOf (line ∷ more) = bytes line ++ feed ++ textOf more

@@ -1,4 +1,4 @@
--- Lines in order: every list of them ends with its result or with the first line that is given; and which numbers a list can give.
+-- Lines in order: every list of them ends in its result or in the first line that is given; and which numbers a list can give.
 -- Assumes nothing.
 use Prim.Native.Nat.{ℕ, zero, suc, _+_, _≤_}
 use mathlib.Core.Path.{_≡_, refl, ap, subst}

@@ -1,4 +1,4 @@
--- A group is maximal as planning tests it exactly when it is in document 01's words: unauthorised, and any person more authorises it.
+-- A group is maximal as planning tests it exactly when it is in the terms of SCOPE 2: unauthorised, and any person more authorises it.
 -- Assumes nothing.
 use Prim.Native.Nat.{ℕ, _+_}
 use mathlib.Core.Path.{_≡_}

@@ -1,4 +1,4 @@
--- A pile made of the whole cards of a group, read block by block: it is sound, and its pieces are those that the group holds.
+-- A pile made of the whole cards of members, read block by block: it is sound, and its pieces are those that the group holds.
 -- Assumes nothing.
 use Prim.Native.Nat.{ℕ, suc, _+_, _-_, _%_, _≤_}
 use mathlib.Core.Path.{_≡_, refl, sym, ap, subst, _∙_}

@@ -1,5 +1,5 @@
--- Demand 1: "Every call on every input ends with its result or with one of the numbered refusals, in the stated order, with its two
--- places." Assumes nothing.
+-- Demand 1 (SCOPE 10.1): whatever a call is given, it ends in its result or in the refusal that SCOPE 6 has for that input, and a refusal
+-- writes nothing. No slot above 32748 gets into a sum. Assumes nothing.
 use Prim.Native.Nat.{ℕ, zero, suc, _%_, _≤_, _<_}
 use mathlib.Core.Path.{_≡_}
 use mathlib.Core.Bool.{true}
@@ -25,7 +25,7 @@ use Rattle.joining.specs.Joined.{joinLines, joining, joinedInto}
 -- A call is planning::plan, dealing::deal, joining::join or block::open. None has a `requires`, so each takes every input; that it ends is
 -- what proving a function shows; and its contract says that its answer is `planned`, `dealing`, `joining` or `opening` of its arguments.
 
--- ---- "with its result or with one of the numbered refusals"
+-- ---- in its result or in a refusal
 -- the refusal m, a, b is that of the first of the lines that is given: those before it pass
 pub record Speaks (ls : List Line) (m a b : ℕ) : Type 0 where
   pub before : List Line
@@ -51,23 +51,23 @@ DealEnds = (d : Deal) (holder room : ℕ) → Ends (dealLines d holder room) (bl
 abbrev pub JoinEnds : Type 0
 JoinEnds = (pile : List ℕ) (room : ℕ) → Ends (joinLines pile room) (ownWidth pile) (joining pile room)
 
--- "fewer is TORN, then 15, 16, 17"
+-- the lines of opening: 13, for fewer than 512 bytes; 15, 16, 17 of the first block
 abbrev pub openLines : List ℕ → List Line
 openLines pile = torn pile ∷ blockLines pile 1
 
 abbrev pub OpenEnds : Type 0
 OpenEnds = (pile : List ℕ) → Ends (openLines pile) (frontWords pile) (opening pile)
 
--- ---- "in the stated order"
+-- ---- the order of SCOPE 6.3
 -- the numbers of the lines, in their order
 abbrev pub numbers : List Line → List ℕ
 numbers ls = map (λ l. number (l .kind)) ls
 
--- "Planning checks 1 to 7" (2 and 3 for each list: "required first").
+-- Planning: 1 to 7, of which 2 and 3 are of the required list, then of the forbidden one.
 abbrev pub PlanOrder : Type 0
 PlanOrder = (p : Policy) → numbers (planLines p) ≡ 1 ∷ 2 ∷ 2 ∷ 3 ∷ 3 ∷ 4 ∷ 5 ∷ 6 ∷ 7 ∷ []
 
--- "Dealing checks 1 to 12 in that order" (10 and 11: the count, else the words).
+-- Dealing: those of planning, then 8 to 12; of 10 and 11 the count before the words.
 abbrev pub DealOrder : Type 0
 DealOrder = (d : Deal) (holder room : ℕ)
     → numbers (dealLines d holder room) ≡ 1 ∷ 2 ∷ 2 ∷ 3 ∷ 3 ∷ 4 ∷ 5 ∷ 6 ∷ 7 ∷ 8 ∷ 9 ∷ 10 ∷ 10 ∷ 11 ∷ 11 ∷ 12 ∷ []
@@ -77,7 +77,7 @@ unfoldable pub eachBlock : ℕ → List ℕ
 eachBlock zero = []
 eachBlock (suc n) = 15 ∷ 16 ∷ 17 ∷ eachBlock n
 
--- "Joining checks 13, 14; then blocks in pile order, each for 15, 16, 17; then 18, 19, 20, 12 over the whole pile."
+-- Joining: 13 and 14; from the front, for one block after the other, 15 to 17; last, over the pile as a whole, 18 to 20 and 12.
 abbrev pub JoinOrder : Type 0
 JoinOrder = (pile : List ℕ) (room : ℕ) → numbers (joinLines pile room) ≡ 13 ∷ 14 ∷ eachBlock (blocks pile) ++ 18 ∷ 19 ∷ 20 ∷ 12 ∷ []
 
@@ -102,14 +102,14 @@ OpenRefuses = (pile : List ℕ) (m a b : ℕ) → opening pile ≡ refused m a b
 abbrev pub DealAsPlanned : Type 0
 DealAsPlanned = (d : Deal) (holder room m a b : ℕ) → planned (d .policy) ≡ refused m a b → dealing d holder room ≡ refused m a b
 
--- ---- "A refusal changes no byte or word lent to it." Only dealing and joining are lent what they can write to.
+-- ---- A refusal writes nothing. Only dealing and joining are lent what they can write to.
 abbrev pub DealKeeps : Type 0
 DealKeeps = (d : Deal) (holder : ℕ) (out : List ℕ) (m a b : ℕ) → dealing d holder (length out) ≡ refused m a b → dealtInto d holder out ≡ out
 
 abbrev pub JoinKeeps : Type 0
 JoinKeeps = (pile out : List ℕ) (m a b : ℕ) → joining pile (length out) ≡ refused m a b → joinedInto pile out ≡ out
 
--- ---- "A slot above 32748 never enters a sum."
+-- ---- No slot above 32748 gets into a sum.
 -- Of the code: a word enters a sum in block's `weigh` and in field's `value_at`, `piece_of` and `join_word`, each of which requires that it
 -- is at most 32748, and every caller shows it. Of what is answered: joining and dealing give a result only where every slot of every block,
 -- and every word of the secret and of the randomness, is at most 32748.

@@ -1,4 +1,4 @@
--- Demand 2: "The pieces, who holds which, and every byte of every card are those of the published scheme as document 01 fixes it."
+-- Demand 2 (SCOPE 10.1): pieces, holdings, the bytes of cards, CLASH and joined secrets are those of SCOPE 2 to 5.
 -- Assumes nothing.
 use Prim.Native.Nat.{ℕ, _+_, _-_, _*_, _≤_, _<_}
 use mathlib.Core.Path.{_≡_}
@@ -24,8 +24,8 @@ use Rattle.joining.specs.Joined.{joining, joinedInto}
 use Rattle.joining.specs.Laws.{Joins, Fits}
 use Rattle.demands.specs.Group.{Group, Contains, Member}
 
--- ---- "The pieces"
--- "An unauthorised group is maximal when adding any person not in it makes it authorised." (Authorised: it contains a required set.)
+-- ---- the pieces
+-- SCOPE 2: an unauthorised group that turns authorised, so that it contains a required set, by one more person, whoever of the others
 pub record Maximal (d : Deal) (g : ℕ) : Type 0 where
   pub group : Group d g
   pub unauthorised : ¬ Contains d g
@@ -35,15 +35,15 @@ pub record Maximal (d : Deal) (g : ℕ) : Type 0 where
 abbrev pub groupOf : Deal → ℕ → ℕ
 groupOf d j = planning.groupOf (d .policy .people) (d .policy .required) j
 
--- "Piece j belongs to the j-th maximal unauthorised group in rising order of the set's number; k is how many there are."
+-- SCOPE 2: the groups of pieces 1 to k are the maximal groups, all of them, sorted by their numbers as sets, the smallest first.
 abbrev pub ThePieces : Type 0
 ThePieces = (d : Deal)
     → ((j : ℕ) → 1 ≤ j → j ≤ dealPieces d → Maximal d (groupOf d j))
     × ((g : ℕ) → Maximal d g → (j : ℕ) × (1 ≤ j) × (j ≤ dealPieces d) × (groupOf d j ≡ g))
     × ((i j : ℕ) → 1 ≤ i → i < j → j ≤ dealPieces d → groupOf d i < groupOf d j)
 
--- ---- "who holds which"
--- "A person holds exactly the pieces whose group does not contain that person": in rising number.
+-- ---- the holdings
+-- SCOPE 2: a person has a piece if the person is not in its group, and only then; they are had by rising number.
 abbrev pub WhoHolds : Type 0
 WhoHolds = (d : Deal) (i : ℕ)
     → ((j : ℕ) → (j ∈ heldBy d i) ↔ ((1 ≤ j) × (j ≤ dealPieces d) × (member i (groupOf d j) ≡ false)))
@@ -54,8 +54,8 @@ abbrev pub WhoOpens : Type 0
 WhoOpens = (d : Deal) → Made d → (g : ℕ) → Group d g
     → Contains d g ↔ ((j : ℕ) → 1 ≤ j → j ≤ dealPieces d → (i : ℕ) × Member d g i × (j ∈ heldBy d i))
 
--- ---- "every byte of every card"
--- "k−1 coefficients a1 to a(k−1), taken in order from the lent randomness: those of word 1 first, then word 2": those of word i
+-- ---- the bytes of cards
+-- SCOPE 3: the k−1 coefficients of word i, read off the lent randomness behind those of the words before it
 abbrev pub coefficients : Deal → ℕ → List ℕ
 coefficients d i = take (dealPieces d - 1) (drop ((i - 1) * (dealPieces d - 1)) (d .random))
 
@@ -71,8 +71,8 @@ abbrev pub OneBlock : Type 0
 OneBlock = (d : Deal) (holder j : ℕ) (b c : List ℕ) → CardBlock d holder j b → CardBlock d holder j c
     → (i : ℕ) → 1 ≤ i → i ≤ 256 → wordAt b i ≡ wordAt c i
 
--- "A card is one block of 512 bytes for each piece held, in rising piece number", and dealing writes it, and nothing else, over the front of
--- the lent output.
+-- SCOPE 4: a card is the blocks of the pieces that its holder has, the lowest piece first. Dealing writes it, and nothing else, over the
+-- front of the lent output.
 abbrev pub EveryByte : Type 0
 EveryByte = (d : Deal) (holder : ℕ) (out : List ℕ) (blocks : ℕ) → dealing d holder (length out) ≡ done blocks
     → (blocks ≡ length (heldBy d holder))
@@ -80,24 +80,22 @@ EveryByte = (d : Deal) (holder : ℕ) (out : List ℕ) (blocks : ℕ) → dealin
     × ((a : ℕ) → 1 ≤ a → a ≤ blocks → CardBlock d holder (at (heldBy d holder) a) (drop (512 * (a - 1)) (card d holder)))
     × (dealtInto d holder out ≡ card d holder ++ drop (512 * blocks) out)
 
--- ---- "Lists are refused as clashing exactly when, the earlier checks being passed, no family of groups that grows with its members fits
--- both lists."
--- The earlier checks are 1 to 5; `Clashes` is that planning answers CLASH, at some two places, and `Suits` that a family fits both lists and
--- grows. Where CLASH is given, none at all does; where it is not,
--- one does, and it can be computed.
+-- ---- CLASH: let refusals 1 to 5 pass; then it is the answer exactly if there is no family of groups with SCOPE 2's three properties
+-- `Clashes` is that planning answers CLASH, at some two places, and `Suits` that a family has those properties. Where CLASH is given, none
+-- at all has them; where it is not, one has, and it can be computed.
 abbrev pub ClashExactly : Type 1
 ClashExactly = (p : Policy) → Passed (listLines p)
     → (Clashes p ↔ ((F : ℕ → Bool) → Suits p (λ g. F g ≡ true) → ⊥))
     × (Clashes p → (F : ℕ → Type 0) → Suits p F → ⊥)
     × (¬ Clashes p → (F : ℕ → Bool) × Suits p (λ g. F g ≡ true))
 
--- ---- "Joining gives the secret that those pieces define, or refuses."
+-- ---- joined secrets
 -- It gives a result exactly for a pile that joins: sound, with a block for each piece of 1 to k, and room. Demand 1 has the refusals.
 abbrev pub JoinsExactly : Type 0
 JoinsExactly = (pile : List ℕ) (room w : ℕ) → (joining pile room ≡ done w) ↔ Joins pile room w
 
--- The result's word i is "the value at 0 of the one polynomial of degree below k through (1, piece 1) to (k, piece k)", each piece as the
--- pile has it; what stands behind the w words stays.
+-- SCOPE 3: one polynomial of degree less than k has the values i of the pieces in the pile as its own; word i of the result is its value
+-- at 0. What lies behind the w words is as before.
 abbrev pub JoinGives : Type 0
 JoinGives = (pile out : List ℕ) (w : ℕ) → joining pile (length out) ≡ done w
     → ((i : ℕ) → 1 ≤ i → i ≤ w → (cs : List ℕ) × One (Fits pile i) cs × (at (joinedInto pile out) i ≡ value cs 0))

@@ -1,5 +1,5 @@
--- Demand 3: "Take one deal and the whole cards of a group of custodians, in any order, repeats allowed, at most 560 blocks, with room for
--- the secret." One deal is one of which some card was dealt (`Made`). Assumes nothing.
+-- Demand 3 (SCOPE 10.1): a pile is the whole cards of a group's members, of one deal, the blocks in any order and repeated at will, up to
+-- 560 of them. One deal is one of which some card was dealt (`Made`). Assumes nothing.
 use Prim.Native.Nat.{ℕ, zero, suc, _*_, _≤_}
 use mathlib.Core.Path.{_≡_}
 use mathlib.Core.List.{List, _++_}
@@ -14,8 +14,8 @@ use Rattle.dealing.specs.Dealt.{Made, dealing, dealtInto}
 use Rattle.joining.specs.Joined.{joining, joinedInto}
 use Rattle.demands.specs.Group.{Group, Contains, Member, WholeCards, cards, members, gathered}
 
--- "If the group contains a required set, joining returns the dealt secret": the answer is w, and the secret stands in the first w words of
--- the lent output, whose rest is as it was.
+-- If the group is authorised, the pile joins to the dealt secret, where there is room for it: the answer is w, and the secret stands in the
+-- first w words of the lent output, whose rest is as it was.
 abbrev pub Opens : Type 0
 Opens = (d : Deal) → Made d → (g : ℕ) → Group d g → Contains d g
     → (pile : List ℕ) → WholeCards d g pile
@@ -23,13 +23,12 @@ Opens = (d : Deal) → Made d → (g : ℕ) → Group d g → Contains d g
     → (joining pile (length out) ≡ done (length (d .secret)))
     × (joinedInto pile out ≡ d .secret ++ drop (length (d .secret)) out)
 
--- SHORT of c distinct pieces out of k; a group that holds none has cards of no bytes, and "A pile of no blocks is SHORT with 0, 0"
+-- SHORT of c different pieces out of k; a group that holds none has cards without a byte, and a pile without a block gets 0 and 0
 abbrev pub shortOf : ℕ → ℕ → Outcome ℕ
 shortOf zero k = refused 20 0 0
 shortOf (suc c) k = refused 20 (suc c) k
 
--- "If not, joining answers SHORT", with the number of distinct pieces that the group holds, and k; whatever the room. The lent output is as
--- it was.
+-- If not, it is SHORT, with how many different pieces the group holds, and k; whatever the room. The lent output is as it was.
 abbrev pub Short : Type 0
 Short = (d : Deal) → Made d → (g : ℕ) → Group d g → ¬ Contains d g
     → (pile : List ℕ) → WholeCards d g pile
@@ -46,12 +45,12 @@ abbrev pub cardFrom : Deal → List ℕ → List ℕ → ℕ → List ℕ
 cardFrom d secret random i = card (again d secret random) i
 
 -- The randomness of the deal's secret and that of another, in pairs, one to one (a map and its inverse, on both sides; each keeps the count
--- and the range), so that each member gets exactly the same card.
+-- and the range), so that each member has the same card.
 abbrev pub HiddenFrom : Deal → ℕ → List ℕ → Type 0
 HiddenFrom d g other = Hidden (LentFor d (d .secret)) (LentFor d other) (cardFrom d (d .secret)) (cardFrom d other) (Member d g)
 
--- "If not, .. for every other secret of as many words there is randomness under which each member gets exactly the same card. That pairing
--- of randomness with randomness is one to one."
+-- And any other secret with as many words could have been dealt so that each member has the same card, by randomness that answers to the
+-- dealt one, one to one.
 abbrev pub Hides : Type 0
 Hides = (d : Deal) → Made d → (g : ℕ) → Group d g → ¬ Contains d g → (other : List ℕ) → length other ≡ length (d .secret) → HiddenFrom d g other
 
@@ -63,8 +62,7 @@ DealsAlike = (d : Deal) → Made d → (g : ℕ) (other : List ℕ) → length o
     → (dealing (again d other (hidden .pairs .there random)) i (length out) ≡ dealing (again d (d .secret) random) i (length out))
     × (dealtInto (again d other (hidden .pairs .there random)) i out ≡ dealtInto (again d (d .secret) random) i out)
 
--- Of this deal in particular: "for every other secret of as many words there is randomness under which each member gets exactly the same
--- card".
+-- Of this deal in particular: any other secret with as many words has randomness by which each member has the card of this deal.
 abbrev pub OtherRandomness : Type 0
 OtherRandomness = (d : Deal) → Made d → (g : ℕ) → Group d g → ¬ Contains d g → (other : List ℕ) → length other ≡ length (d .secret)
     → (random : List ℕ) × LentFor d other random × ((i : ℕ) → Member d g i → cardFrom d other random i ≡ card d i)
@@ -73,7 +71,7 @@ OtherRandomness = (d : Deal) → Made d → (g : ℕ) → Group d g → ¬ Conta
 abbrev pub GivesCards : Deal → ℕ → (ℕ → List ℕ) → List ℕ → List ℕ → Type 0
 GivesCards d g c secret = Gives (LentFor d secret) (cardFrom d secret) (Member d g) c
 
--- "so with even randomness the cards favour no secret." Even randomness is each of the 32749 ^ (w(k−1)) lists as likely as any other; the
+-- So, if the randomness is even, cards make no secret likelier. Even is: each of the 32749 ^ (w(k−1)) lists as likely as any other; the
 -- chance of some cards, given a secret, is then how many of those lists give them, out of all. Whatever the cards c of the members are, the
 -- lists that give them from the one secret and those that give them from the other stand in pairs, so they are equally many, and the chance
 -- is the same: seeing c makes no secret likelier against another than it was.

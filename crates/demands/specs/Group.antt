@@ -12,11 +12,11 @@ use Rattle.planning.specs.Groups.{holds}
 use Rattle.dealing.specs.Deal.{Deal, dealPieces, cardBlocks, card}
 use Rattle.lists.specs.Flat.{flat}
 
--- g is a group of the deal's people: it names no person above n
+-- g is a group of the deal's people: nobody in it has a number greater than n
 abbrev pub Group : Deal → ℕ → Type 0
 Group d g = g < 2 ^ d .policy .people
 
--- "the group contains a required set"
+-- a required set lies inside the group: it is authorised (SCOPE 2)
 pub record Contains (d : Deal) (g : ℕ) : Type 0 where
   pub set : ℕ
   pub required : set ∈ d .policy .required
@@ -34,7 +34,7 @@ pub record CardsOf (blocksOf : ℕ → List (List ℕ)) (member : ℕ → Type 0
   pub theirs : (b : List ℕ) → List·Memᴰ b blocks → (i : ℕ) × member i × List·Memᴰ b (blocksOf i)
   pub all : (i : ℕ) → member i → (b : List ℕ) → List·Memᴰ b (blocksOf i) → List·Memᴰ b blocks
 
--- The pile is made of the whole cards of the group: such blocks of the deal, one after another, at most 560.
+-- The pile is the whole cards of the group's members: such blocks of the deal, one after another, up to 560.
 pub record WholeCards (d : Deal) (g : ℕ) (pile : List ℕ) : Type 0 where
   pub blocks : List (List ℕ)
   pub whole : CardsOf (cardBlocks d) (Member d g) blocks
@@ -53,6 +53,6 @@ members d g = those (λ i. member i g) 1 (d .policy .people)
 unfoldable pub gathers : Deal → ℕ → ℕ → Bool
 gathers d g j = some (λ i. holds (d .policy .people) (d .policy .required) i j) (members d g)
 
--- the distinct pieces that the group holds, in rising number
+-- the different pieces that the group holds, in rising number
 unfoldable pub gathered : Deal → ℕ → List ℕ
 gathered d g = those (gathers d g) 1 (dealPieces d)
