@@ -2,7 +2,7 @@
 use crate::numbers::Numbers;
 use crate::reference::{bytes_of, check, deal, plan, words_of, Deal, BLOCK};
 
-/// A policy: a number of people, the required sets, the forbidden sets. Most are accepted; some have one or more faults.
+/// A policy: how many people, the required sets, the forbidden sets. Most are accepted; some have one or more faults.
 pub fn policy(n: &mut Numbers) -> (usize, Vec<u16>, Vec<u16>) {
     let people = match n.below(40) {
         0 => 0,

@@ -1,4 +1,4 @@
-//! An implementation of document 01 that is independent of the proved one, the proved library behind safe functions, and what
+//! An implementation of SCOPE that is independent of the proved one, the proved library behind safe functions, and what
 //! tests and benchmarks share.
 
 pub mod cards;

@@ -1,5 +1,5 @@
-//! Document 01 written a second time, from its text alone: nothing here is shared with the proved code.
-//! Where the proved code and this disagree, document 01 decides.
+//! SCOPE written a second time: nothing here is shared with the proved code.
+//! Where the proved code and this disagree, SCOPE decides.
 
 mod programs;
 
@@ -68,7 +68,7 @@ pub fn held(groups: &[u16], holder: usize) -> Vec<usize> {
     (1..=groups.len()).filter(|j| groups[j - 1] >> (holder - 1) & 1 == 0).collect()
 }
 
-/// Piece j of a word: d + a1·j + a2·j² + .. mod p.
+/// Piece j of the word d (SCOPE 3): the polynomial at j, mod p.
 pub fn piece(word: u16, coefficients: &[u16], j: usize) -> u16 {
     let mut value = 0;
     for coefficient in coefficients.iter().rev() {
@@ -86,7 +86,7 @@ pub fn block_words(head: [u16; 7], values: &[u16]) -> [u16; 256] {
     words
 }
 
-/// The sum of i times word i, i from 1 to 255, mod p.
+/// The check (SCOPE 4): 1·word 1, 2·word 2, .., 255·word 255 added, mod p.
 pub fn check(words: &[u16; 256]) -> u16 {
     let sum: u64 = (1..256).map(|i| i as u64 * words[i - 1] as u64).sum();
     (sum % P) as u16
@@ -158,7 +158,7 @@ pub fn deal(d: &Deal, holder: usize, out: &mut [u8]) -> Result<usize, Refusal> {
     Ok(pieces.len())
 }
 
-/// The first word of 1 to 255 that breaks the layout.
+/// The first word from 1 to 255 that is not as SCOPE 4 has it.
 fn wrong(words: &[u16; 256]) -> Option<usize> {
     let word = |i: usize| words[i - 1];
     let right = [
@@ -214,7 +214,7 @@ fn power(base: u64, mut exponent: u64) -> u64 {
     result
 }
 
-/// The weight of each piece 1 to k in the value at 0 of the polynomial through them: Lagrange, inverses by Fermat.
+/// What each piece 1 to k weighs, where the polynomial through them is taken at 0: Lagrange, inverses by Fermat.
 pub fn weights(k: usize) -> Vec<u64> {
     (1..=k as u64)
         .map(|j| {

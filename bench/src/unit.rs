@@ -46,7 +46,7 @@ impl Answer {
     }
 }
 
-/// k, with the group of each piece in the first k places.
+/// k; the first k places get the groups of the pieces.
 pub fn plan(people: usize, required: &[u16], forbidden: &[u16], groups: &mut [u16; 70]) -> Result<usize, Refusal> {
     unsafe {
         titmeadow_plan(people, required.as_ptr(), required.len(), forbidden.as_ptr(), forbidden.len(), groups.as_mut_ptr())

@@ -1,5 +1,5 @@
-//! The edges that document 01 names, on the library: 560 and 561 blocks, an output too short by one word and by one byte, slots and words
-//! of 32748 and 32749. What is expected is written here, from document 01.
+//! The edges of SCOPE's ranges, on the library: 560 and 561 blocks, an output too short by one word and by one byte, slots and words
+//! of 32748 and 32749. What is expected is written here, from SCOPE.
 use bench::inputs::{blocks, card, with_word};
 use bench::reference::{Deal, Refusal, BLOCK};
 use bench::unit;

@@ -1,4 +1,4 @@
-//! The independent implementation on the worked cases of document 01, so that what the library is held to is itself held to the text.
+//! The independent implementation on the cases of SCOPE 8, so that what the library is held to is itself held to the text.
 use bench::reference::*;
 
 fn p11() -> Deal {

@@ -40,7 +40,7 @@ fn compare(name: &str, mut ours: impl FnMut(), mut theirs: impl FnMut()) {
     println!("| {name} | {:.2} | {:.2} | {:.2} | {low:.2} to {high:.2} |", a * 1e6, b * 1e6, a / b);
 }
 
-/// A deal of 16 words by "any so many of so many people".
+/// A deal of 16 words, by a policy that any so many of so many people open.
 fn threshold(people: usize, least: u32) -> Deal {
     let required: Vec<u16> = (0..1u16 << people).filter(|set| set.count_ones() == least).collect();
     let k = reference::plan(people, &required, &[]).unwrap().len();

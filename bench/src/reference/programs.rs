@@ -1,4 +1,4 @@
-//! Document 01, "The two programs": a policy text to its listing, a pile to its line.
+//! The two programs (SCOPE 7): a policy text to its listing, a pile to its line.
 
 use super::{held, join, plan, refuse, Refusal};
 
