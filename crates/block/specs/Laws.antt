@@ -60,7 +60,7 @@ abbrev pub OnlyWords : Type 0
 OnlyWords = (b c : List ℕ) → ((i : ℕ) → 1 ≤ i → i ≤ 256 → wordAt b i ≡ wordAt c i)
     → ((a : ℕ) → blockLines b a ≡ blockLines c a) × (frontWords b ≡ frontWords c) × (TrueBlock b → 512 ≤ length c → TrueBlock c)
 
--- SCOPE 4: UNREAD, CHECK and HEADER pass on a true block, as block a of a pile, whatever a is; and 512 bytes on which they pass begin one.
+-- SCOPE 4: UNREAD, CHECK and HEADER pass on a true block, as block a of a pile, whatever a is; and 512 bytes on which they pass are one.
 abbrev pub TrueMeans : Type 0
 TrueMeans = (b : List ℕ) (a : ℕ) → (TrueBlock b → Passed (blockLines b a)) × (512 ≤ length b → Passed (blockLines b a) → TrueBlock b)
 
@@ -111,7 +111,7 @@ ValueWords = (pile : List ℕ) → TrueBlock pile
     → (length (valueBytes pile) ≡ 2 * widthOf pile)
     × ((i : ℕ) → 1 ≤ i → i ≤ widthOf pile → wordAt (valueBytes pile) i ≡ wordAt pile (7 + i))
 
--- SCOPE 5: a refused block has no value bytes; that part lies at the front.
+-- SCOPE 5: a refused block has no value bytes: an empty part, at the front of the pile.
 abbrev pub RefusedEmpty : Type 0
 RefusedEmpty = (pile : List ℕ) (m a b : ℕ) → opening pile ≡ refused m a b → (valueBytes pile ≡ []) × (valueStart pile ≡ 0)
 

@@ -13,7 +13,7 @@ use Rattle.planning.specs.Policy.{Policy}
 use Rattle.planning.specs.Planned.{planned, plannedRows}
 use Rattle.print.specs.Lines.{feed}
 
--- the set of these people: the bit of each has its value 2^(i−1)
+-- the set of these people: the bit of person i has the value 2^(i−1)
 unfoldable pub set : List ℕ → ℕ
 set [] = 0
 set (i ∷ others) = worth i + set others

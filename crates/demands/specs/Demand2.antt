@@ -25,7 +25,7 @@ use Rattle.joining.specs.Laws.{Joins, Fits}
 use Rattle.demands.specs.Group.{Group, Contains, Member}
 
 -- ---- the pieces
--- SCOPE 2: an unauthorised group that turns authorised, so that it contains a required set, by one more person, whoever of the others
+-- SCOPE 2: a group that is unauthorised (it contains no required set), and turns authorised whoever of the others is added
 pub record Maximal (d : Deal) (g : ℕ) : Type 0 where
   pub group : Group d g
   pub unauthorised : ¬ Contains d g

@@ -64,8 +64,8 @@ abbrev pub NoneFavoured : Type 1
 NoneFavoured = (X Y W : Type 0) (A : X → Type 0) (B : Y → Type 0) (one : X → W → List ℕ) (other : Y → W → List ℕ) (member : W → Type 0)
     → Hidden A B one other member → (c : W → List ℕ) → Matched (Gives A one member c) (Gives B other member c)
 
--- So no secret is likelier than another: whatever values the pieces but m have, any two secrets of as many words have equally many lists of
--- randomness that give them.
+-- So what is seen makes no secret likelier: whatever values the pieces but m have, any two secrets of as many words have equally many
+-- lists of randomness that give them.
 abbrev pub HiddenGives : Type 0
 HiddenGives = (k m : ℕ) (v : ℕ → List ℕ) (ds ds′ : List ℕ) → k < p → 1 ≤ m → m ≤ k → length ds ≡ length ds′
     → Matched (GivesValues k m v ds) (GivesValues k m v ds′)

@@ -12,7 +12,7 @@ use Rattle.lists.specs.Some.{each, some}
 unfoldable pub authorised : List ℕ → ℕ → Bool
 authorised required g = some (λ r. inside r g) required
 
--- one more person, whoever of the n that is, turns the group authorised. Which groups are authorised, auth says.
+-- one more of the n people, whoever that is, turns the group authorised. Which groups are authorised, auth says.
 unfoldable pub tight : (ℕ → Bool) → ℕ → ℕ → Bool
 tight auth n g = each n (λ i. member i g || auth (g + worth i))
 
