@@ -1,6 +1,6 @@
 /* Deals to four custodians, damages a card and joins: what the unit does with a good pile, a short one, a dirty one and a torn one.
  *   rt staticlib titmeadow && cc -I include examples/deal_damage_join.c target/staticlib/libtitmeadow.a -o target/example && target/example
- * It prints its six answers and ends with status 0 where they are those that document 01 gives. */
+ * It prints its six answers and ends with status 0 where they are those that SCOPE gives. */
 #include <stdio.h>
 #include <string.h>
 #include "titmeadow.h"

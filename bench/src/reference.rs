@@ -68,7 +68,7 @@ pub fn held(groups: &[u16], holder: usize) -> Vec<usize> {
     (1..=groups.len()).filter(|j| groups[j - 1] >> (holder - 1) & 1 == 0).collect()
 }
 
-/// Piece j of the word d (SCOPE 3): the polynomial at j, mod p.
+/// Piece j of a word (SCOPE 3): its polynomial at j, mod p.
 pub fn piece(word: u16, coefficients: &[u16], j: usize) -> u16 {
     let mut value = 0;
     for coefficient in coefficients.iter().rev() {
