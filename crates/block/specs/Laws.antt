@@ -30,7 +30,7 @@ pub record Ranges (l : Label) : Type 0 where
 abbrev pub RangesMean : Type 0
 RangesMean = (l : Label) → Ranged l ↔ Ranges l
 
--- SCOPE 4: a block has 512 bytes.
+-- SCOPE 4: a block, as it is written, has 512 bytes.
 abbrev pub BlockLength : Type 0
 BlockLength = (l : Label) (vs : List ℕ) → Buildable l vs → length (blockBytes l vs) ≡ 512
 

@@ -90,7 +90,7 @@ ClashExactly = (p : Policy) → Passed (listLines p)
     × (¬ Clashes p → (F : ℕ → Bool) × Suits p (λ g. F g ≡ true))
 
 -- ---- joined secrets
--- It gives a result exactly for a pile that joins: sound, with a block for each piece of 1 to k, and room. Demand 1 has the refusals.
+-- Joining has a result exactly for a pile that joins: sound, with a block for each piece of 1 to k, and room. Demand 1 has the refusals.
 abbrev pub JoinsExactly : Type 0
 JoinsExactly = (pile : List ℕ) (room w : ℕ) → (joining pile room ≡ done w) ↔ Joins pile room w
 

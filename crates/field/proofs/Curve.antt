@@ -93,7 +93,7 @@ module _ (k : ℕ) where
       (λ i u v f. mul≈ (lagrangeWeight k i) (loose-none i k x l a b (λ g. f (sym g))) then omega arith)
       a (omega arith)
 
--- through k points there is a polynomial of degree below k
+-- through k points goes a polynomial of degree less than k
 pub through-some : (ys : List ℕ) → Below ys → length ys < p → Through (curve (length ys) 1 ys) ys
 through-some ys b l = record {
   degree = full ys;

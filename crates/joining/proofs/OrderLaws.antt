@@ -1,4 +1,4 @@
--- A pile with the blocks of another, in any order, repeats allowed, joins to the same secret: only pieces and values count.
+-- A pile with the blocks of another, in another order and repeated at will, joins to the same secret: only pieces and values count.
 -- Assumes nothing.
 use mathlib.Core.Path.{_≡_, sym, ap, _∙_}
 use mathlib.Core.List.{List}

@@ -71,8 +71,8 @@ needWord = 110 ∷ 101 ∷ 101 ∷ 100 ∷ []
 abbrev pub barWord : List ℕ
 barWord = 98 ∷ 97 ∷ 114 ∷ []
 
--- people, each as one space and one of the digits 1 to 9, each digit greater than the one before it, and the line feed: their set, with
--- those of `set`. `last` is the byte of the digit before, that of 0 before the first.
+-- people, or nobody, each as one space and one of the digits 1 to 9, each digit greater than the one before it; and the line feed: their
+-- set, with those of `set`. `last` is the byte of the digit before, that of 0 before the first.
 unfoldable pub members : ℕ → ℕ → List ℕ → Found
 members last set [] = Nothing
 members last set (b ∷ []) = pickFound (eqb b 10) (Number set) Nothing

@@ -1,6 +1,6 @@
 // Plans the larger cases of SCOPE 8.2, the sources' examples and each refusal, and prints what comes out: for an accepted policy the
 // number of pieces, the group of each and how many pieces each person holds; for another its refusal. WIDE has no case: 8 people never have
-// more than 70 maximal groups.
+// over 70 maximal groups.
 use answer::Answer;
 use answer::Refusal;
 ghost use Prim.Native.Nat.{_≤_};

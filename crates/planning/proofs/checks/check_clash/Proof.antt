@@ -1,4 +1,4 @@
--- `planning::checks::check_clash` meets its contract: a place is found exactly where some required set lies inside a forbidden one.
+-- `planning::checks::check_clash` meets its contract: a place is found exactly where a required set is inside a forbidden one.
 -- Assumes nothing.
 use mathlib.Core.Path.{_∙_}
 use mathlib.Core.List.{List}
