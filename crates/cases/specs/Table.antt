@@ -83,8 +83,8 @@ pub record Table : Type 0 where
   pub p9 : run (piece 32748 (1 ∷ 0 ∷ [])) 1 3 ≡ 0 ∷ 1 ∷ 2 ∷ []
   -- the word 0 with the coefficients 23483 and 10512: its pieces 1 and 3 are as in P7
   pub p10 : (piece 0 (23483 ∷ 10512 ∷ []) 1 ≡ 1246) × (piece 0 (23483 ∷ 10512 ∷ []) 3 ≡ 1312)
-  -- the card of holder 4 in the deal above is the one block above, every byte of it, and dealing writes it over the front of whatever output
-  -- of 512 bytes or more is lent
+  -- the card of holder 4 in the deal above is the one block above, every byte of it, and dealing writes it over the front of whatever
+  -- output of 512 bytes or more is lent
   pub p11 : (card deal11 4 ≡ bytesOf words11)
       × ((out : List ℕ) → 512 ≤ length out
       → (dealing deal11 4 (length out) ≡ done 1) × (dealtInto deal11 4 out ≡ bytesOf words11 ++ drop 512 out))
