@@ -4,11 +4,11 @@ use mathlib.Core.Path.{_≡_, refl, sym, ap, ap₂, _∙_}
 use mathlib.Core.Bool.{Bool, true, false, not, _&&_, _||_}
 use mathlib.Core.List.{List}
 use mathlib.Core.Logic.{⊎-elim}
-use Prim.Native.Nat.{ℕ, suc, _+_, _*_, _/_, _%_, _^_, _≤_, _<_}
+use Prim.Native.Nat.{ℕ, zero, suc, _+_, _*_, _/_, _%_, _^_, _≤_, _<_}
 use native.Mathlib.Nat.{pow-suc}
 use native.Mathlib.Numerals.{add-one}
 use native.Mathlib.Omega.{arith}
-use lib.ListN.{length, set, length-set}
+use lib.ListN.{length, set, replicate, length-set}
 use lib.Pow.{pow-mono}
 use lib.Seq.{getD-set-same, getD-set-other}
 use borrow.Author.Count.{below-none, below-more}
@@ -83,8 +83,13 @@ pub size-le : (n s : ℕ) → n ≤ 8 → s ≡ 2 ^ n → s ≤ 256
 size-le n s few e = let p : 2 ^ n ≤ 2 ^ 8 = pow-mono few in omega arith
 
 -- ---- flags
-pub flags-none : {auth : ℕ → Bool} {f : List Bool} → length f ≡ 256 → Flags auth 0 f
-flags-none {auth} {f} e = record { count = e; right = below-none (λ (g : ℕ). flagged f g ≡ auth g) }
+unset : (n g : ℕ) → flagged (replicate n false) g ≡ false
+unset zero g = refl
+unset (suc n) zero = refl
+unset (suc n) (suc g) = unset n g
+
+pub flags-none : {auth : ℕ → Bool} → Flags auth 0 (replicate 256 false)
+flags-none {auth} = record { count = refl; right = below-none (λ (g : ℕ). flagged (replicate 256 false) g ≡ auth g); rest = λ g l. unset 256 g }
 
 pub flags-more : {auth : ℕ → Bool} {g : ℕ} {f : List Bool} (b : Bool) → g < 256 → b ≡ auth g → Flags auth g f → Flags auth (g + 1) (set f g b)
 flags-more {auth} {g} {f} b p e h = record {
@@ -92,6 +97,7 @@ flags-more {auth} {g} {f} b p e h = record {
   right = below-more (λ (k : ℕ). flagged (set f g b) k ≡ auth k) g
       (λ k q. getD-set-other f g k b false (λ (x : k ≡ g). let z : ⊥ = omega arith in absurd z) ∙ h .right k q)
       (getD-set-same f g b false (omega (arith, h .count)) ∙ e);
+  rest = λ k l. getD-set-other f g k b false (λ (x : k ≡ g). let z : ⊥ = omega arith in absurd z) ∙ h .rest k (omega arith);
 }
 
 -- two tests that agree on the groups of n people make the same groups maximal

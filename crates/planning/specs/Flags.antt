@@ -14,10 +14,11 @@ use Rattle.planning.specs.Planned.{wide, rowsFor}
 abbrev pub flagged : List Bool → ℕ → Bool
 flagged f g = getD f g false
 
--- 256 flags, of which that of each group below c is auth's
+-- 256 flags, of which that of each group below c is auth's, and no other is set
 pub record Flags (auth : ℕ → Bool) (c : ℕ) (f : List Bool) : Type 0 where
   pub count : length f ≡ 256
   pub right : (g : ℕ) → g < c → flagged f g ≡ auth g
+  pub rest : (g : ℕ) → c ≤ g → flagged f g ≡ false
 
 -- the answer that these maximal groups give, where every check before WIDE passes
 unfoldable pub fillSays : List ℕ → Outcome ℕ

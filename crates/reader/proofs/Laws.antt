@@ -18,7 +18,7 @@ use Rattle.block.proofs.ValueLaws as value
 use Rattle.pile.specs.Blocks.{blocks, restFrom}
 use Rattle.pile.proofs.PileLaws.{rest-long}
 use Rattle.reader.specs.declared.Seen.the-variants.{Head, Refused, Ended}
-use Rattle.reader.specs.Seeing.{told, counted, openingAt, seeing, after, placeAfter}
+use Rattle.reader.specs.Seeing.{told, counted, openingAt, seeing, after, valuesOf, valuesFrom, placeAfter}
 use Rattle.reader.specs.Laws as law
 use Rattle.reader.proofs.SeeingLaws.{counted-lines, counted-opening, seeing-block, seeing-torn, seeing-ended, after-block, after-stays, values-in}
 use Rattle.reader.proofs.ReadingLaws.{not-ended}
@@ -42,6 +42,9 @@ sight-one Ended Ended e = refl
 -- ---- the place
 pub one-step : law.OneStep
 one-step pile n = (after-block pile n, after-stays pile n)
+
+pub values-stay : law.ValuesStay
+values-stay pile n h = (ap (valuesOf pile) (after-stays pile n h), ap (valuesFrom pile) (after-stays pile n h))
 
 place-in : (pile : List ℕ) (c : ℕ) → c ≤ blocks pile → placeAfter pile c ≡ c
 unfolding placeAfter

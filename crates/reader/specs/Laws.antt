@@ -43,6 +43,12 @@ ValuesPassed = (pile : List ℕ) (n : ℕ) → n < blocks pile
     → (valuesOf pile (after pile n) ≡ valueBytes (restFrom pile (n + 1)))
     × (valuesFrom pile (after pile n) ≡ 512 * n + valueStart (restFrom pile (n + 1)))
 
+-- TORN and the end pass no block: after them the value bytes are still those of the block passed before.
+abbrev pub ValuesStay : Type 0
+ValuesStay = (pile : List ℕ) (n : ℕ) → blocks pile ≤ n
+    → (valuesOf pile (after pile n) ≡ valuesOf pile n)
+    × (valuesFrom pile (after pile n) ≡ valuesFrom pile n)
+
 -- SCOPE 5: a refused block has no value bytes.
 abbrev pub RefusedEmpty : Type 0
 RefusedEmpty = (pile : List ℕ) (n m a b : ℕ) → n < blocks pile → seeing pile n ≡ told (refused m a b) → valuesOf pile (after pile n) ≡ []

@@ -16,7 +16,7 @@ abbrev μ-loop : tie.MeasureT-loop
 μ-loop people required size f₀ g₀ f g = size - g
 
 loop-holds : tie.Need-loop-holds Inv-loop μ-loop
-loop-holds c = (c .group-count .ensures, size-le _ _ (c .before .before .pre) (c .group-count .ensures), search needs, flags-none refl)
+loop-holds c = (c .group-count .ensures, size-le _ _ (c .before .before .pre) (c .group-count .ensures), search needs, flags-none)
 
 loop-again : tie.Need-loop-again Inv-loop μ-loop
 loop-again c = (search needs, search needs, search needs, flags-more _ (omega arith) (c .authorised .ensures) (c .before .before .loop .inv .3))
