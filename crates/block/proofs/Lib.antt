@@ -1,6 +1,7 @@
 pub mod WordLaws
 pub mod SumLaws
 pub mod DealLaws
+pub mod ZeroLaws
 pub mod LayoutLaws
 pub mod RangeLaws
 pub mod ScanLaws

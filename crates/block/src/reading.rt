@@ -7,8 +7,8 @@ use answer::Answer;
 use answer::Kind;
 use answer::Refusal;
 ghost use mathlib.Core.Path.{_≡_};
-ghost use Prim.Native.Nat.{_+_, _≤_};
-ghost use lib.ListN.{length};
+ghost use Prim.Native.Nat.{ℕ, _+_, _≤_};
+ghost use lib.ListN.{length, getD};
 ghost use Rattle.answer.specs.Outcome.{outcome, done};
 ghost use Rattle.answer.specs.Checks.{firstFail};
 ghost use Rattle.lists.specs.Places.{firstIn};
@@ -77,8 +77,22 @@ fn right(b: &[u8], i: usize) -> bool
     }
 }
 
-// The first word from `start` on, before `end`, that is not 0, or 0.
-fn first_filled(b: &[u8], start: usize, end: usize) -> usize
+// The sum of these bytes. It looks at every one of them, whatever it finds, so that many can be added at a time.
+fn byte_sum(b: &[u8]) -> u32
+    requires { ⌜ length (now b) ≤ 512 ⌝ }
+    ensures { λ r. ⌜ (r ≡ 0 → (i : ℕ) → getD (now (b .entry)) i 0 ≡ 0) ⌝ }
+{
+    let mut sum: u32 = 0;
+    let mut i: usize = 0;
+    while i < b.len() {
+        sum += b[i] as u32;
+        i += 1;
+    }
+    sum
+}
+
+// The first word from `start` on, before `end`, that is not 0, or 0: word by word.
+fn search_filled(b: &[u8], start: usize, end: usize) -> usize
     requires { ⌜ (1 ≤ start) × (end ≤ 256) × (510 ≤ length (now b)) ⌝ }
     ensures { λ r. ⌜ r ≡ firstIn (filled (now (b .entry))) start end ⌝ }
 {
@@ -91,6 +105,22 @@ fn first_filled(b: &[u8], start: usize, end: usize) -> usize
         i += 1;
     }
     0
+}
+
+// The same. Where all these words are 0, as in every good block, one sum over their bytes tells.
+fn first_filled(b: &[u8], start: usize, end: usize) -> usize
+    requires { ⌜ (1 ≤ start) × (end ≤ 256) × (510 ≤ length (now b)) ⌝ }
+    ensures { λ r. ⌜ r ≡ firstIn (filled (now (b .entry))) start end ⌝ }
+{
+    if end <= start {
+        return 0;
+    }
+    let from = 2 * (start - 1);
+    let to = 2 * (end - 1);
+    if byte_sum(&b[from..to]) == 0 {
+        return 0;
+    }
+    search_filled(b, start, end)
 }
 
 // The first of words 1 to 255 that is not as SCOPE 4 has it, or 0: words 1 to 7, then the words past the values, which are 0.
