@@ -2,6 +2,7 @@
 use Rattle.answer.specs.Laws as law
 use Rattle.answer.proofs.OneLaws as one
 use Rattle.answer.proofs.CheckLaws as check
+use Rattle.answer.proofs.WhichLaws as which
 use Rattle.answer.proofs.LentLaws as lent
 
 pub number-one : law.NumberOne
@@ -18,6 +19,9 @@ passed-done A = check.passed-done
 
 pub refused-by : law.RefusedBy
 refused-by A = check.refused-by
+
+pub refused-number : law.RefusedNumber
+refused-number A = which.refused-number
 
 pub refusal-keeps : law.RefusalKeeps
 refusal-keeps A = lent.refusal-keeps

@@ -1,7 +1,7 @@
 -- Checks in the order of SCOPE 6.3, of which the first that fails gives the answer.
 -- Assumes nothing.
 use mathlib.Core.Bool.{Bool, true, false}
-use mathlib.Core.List.{List, [], _∷_}
+use mathlib.Core.List.{List, [], _∷_, map}
 use Prim.Native.Nat.{ℕ}
 use Rattle.answer.specs.declared.Kind.{Kind}
 use Rattle.answer.specs.Outcome.{Outcome, refused, number}
@@ -25,3 +25,7 @@ pick false x y = y
 unfoldable pub firstFail : {A : Type 0} → List Line → Outcome A → Outcome A
 firstFail [] end = end
 firstFail (l ∷ ls) end = pick (l .given) (refused (number (l .kind)) (l .a) (l .b)) (firstFail ls end)
+
+-- the numbers of the lines, in their order
+abbrev pub numbers : List Line → List ℕ
+numbers ls = map (λ l. number (l .kind)) ls

@@ -7,8 +7,9 @@ use Prim.Native.Nat.{ℕ}
 use Rattle.answer.specs.declared.Kind.{Kind}
 use Rattle.answer.specs.declared.Answer.{Answer}
 use Rattle.answer.specs.Outcome.{Outcome, done, refused, number, outcome}
-use Rattle.answer.specs.Checks.{Line, firstFail}
+use Rattle.answer.specs.Checks.{Line, firstFail, numbers}
 use Rattle.lists.specs.Over.{over}
+use Rattle.lists.specs.Some.{_∈_}
 use Rattle.answer.specs.Lent.{left}
 
 -- Two kinds with one number are one kind.
@@ -42,6 +43,10 @@ PassedDone = (A : Type 0) (ls : List Line) (end : Outcome A) → Passed ls → f
 -- A refusal is that of one of the lines: a call gives no refusal that its list does not name.
 abbrev pub RefusedBy : Type 1
 RefusedBy = (A : Type 0) (ls : List Line) (v : A) (m a b : ℕ) → firstFail ls (done v) ≡ refused m a b → By ls m a b
+
+-- So its number is the number of one of them.
+abbrev pub RefusedNumber : Type 1
+RefusedNumber = (A : Type 0) (ls : List Line) (v : A) (m a b : ℕ) → firstFail ls (done v) ≡ refused m a b → m ∈ numbers ls
 
 -- SCOPE 6.4: after a refusal, all that was lent is as before.
 abbrev pub RefusalKeeps : Type 1

@@ -9,6 +9,7 @@ use Rattle.planning.specs.Laws as law
 use Rattle.planning.proofs.SetLaws as set
 use Rattle.planning.proofs.ListedLaws as lists
 use Rattle.planning.proofs.HoldingLaws as holding
+use Rattle.planning.proofs.PlaceLaws as place
 use Rattle.planning.proofs.ClashLaws as clash
 use Rattle.planning.proofs.AcceptedLaws as accepted
 
@@ -20,6 +21,15 @@ inside-means = set.inside-means
 
 pub listed-means : law.ListedMeans
 listed-means = lists.listed
+
+pub long-places : law.LongPlaces
+long-places = place.long-places
+
+pub stranger-places : law.StrangerPlaces
+stranger-places = place.stranger-places
+
+pub open-places : law.OpenPlaces
+open-places = place.open-places
 
 pub clash-families : law.ClashFamilies
 clash-families = clash.clash-families

@@ -5,6 +5,7 @@ pub mod HoldingLaws
 pub mod RowLaws
 pub mod ListedLaws
 pub mod PlannedLaws
+pub mod PlaceLaws
 pub mod FamilyLaws
 pub mod ClashLaws
 pub mod AcceptedLaws

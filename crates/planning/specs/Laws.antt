@@ -3,10 +3,11 @@
 use mathlib.Core.Path.{_≡_}
 use mathlib.Core.Bool.{Bool, true, false}
 use mathlib.Core.List.{List}
-use mathlib.Core.Logic.{_↔_}
+use mathlib.Core.Logic.{_↔_, _⊎_}
 use Prim.Native.Nat.{ℕ, _+_, _^_, _≤_, _<_}
+use lib.Dec.{eqb}
 use lib.ListN.{length}
-use Rattle.answer.specs.declared.Kind.the-variants.{Clash}
+use Rattle.answer.specs.declared.Kind.the-variants.{LongList, Stranger, Open, Clash}
 use Rattle.answer.specs.Outcome.{done, refused, number, outcome}
 use Rattle.lists.specs.Places.{at}
 use Rattle.answer.specs.Laws.{Passed}
@@ -41,6 +42,28 @@ pub record Listed (p : Policy) : Type 0 where
 -- They have 1 to 8 people, at most 256 sets each, all of them groups, and a required set, none of them empty.
 abbrev pub ListedMeans : Type 0
 ListedMeans = (p : Policy) → Passed (listLines p) → Listed p
+
+-- ---- at which places they are refused
+-- LONGLIST: a says which list is too long, and the forbidden one, 2, is named only where the required one, 1, is not; b is 0.
+abbrev pub LongPlaces : Type 0
+LongPlaces = (p : Policy) (a b : ℕ) → planned p ≡ refused (number LongList) a b
+    → (((a ≡ 1) × (256 < length (p .required))) ⊎ ((a ≡ 2) × (length (p .required) ≤ 256) × (256 < length (p .forbidden))))
+    × (b ≡ 0)
+
+-- b is the first place in the list of a set that names a person above n
+abbrev pub StrangerFirst : ℕ → List ℕ → ℕ → Type 0
+StrangerFirst n sets b = IsFirst (λ i. stranger n (at sets i)) 1 (length sets + 1) b
+
+-- STRANGER: a says in which list, and the forbidden one is named only where no required set names a stranger; b is the place.
+abbrev pub StrangerPlaces : Type 0
+StrangerPlaces = (p : Policy) (a b : ℕ) → planned p ≡ refused (number Stranger) a b
+    → ((a ≡ 1) × StrangerFirst (p .people) (p .required) b)
+    ⊎ ((a ≡ 2) × ((s : ℕ) → s ∈ p .required → stranger (p .people) s ≡ false) × StrangerFirst (p .people) (p .forbidden) b)
+
+-- OPEN: a is the first place of a required set of nobody; b is 0.
+abbrev pub OpenPlaces : Type 0
+OpenPlaces = (p : Policy) (a b : ℕ) → planned p ≡ refused (number Open) a b
+    → IsFirst (λ i. eqb 0 (at (p .required) i)) 1 (length (p .required) + 1) a × (b ≡ 0)
 
 -- ---- the clash rule (000, Theorem 2)
 -- SCOPE 2: the three properties of a family of groups, F g being that g is in it. Each required set is in it; no forbidden set is; and with
