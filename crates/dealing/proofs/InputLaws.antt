@@ -26,7 +26,7 @@ in-range high v e =
     let n : v ≡ 0 → ⊥ = eqb-false v 0 (h .0) in
     (omega arith, ltb-false high v (h .1))
 
-range-in : (high v : ℕ) → 1 ≤ v → v ≤ high → outside high v ≡ false
+pub range-in : (high v : ℕ) → 1 ≤ v → v ≤ high → outside high v ≡ false
 range-in high v l u = rw (ne-eqb v 0 (λ z. omega arith), le-ltb high v u)
 
 -- ---- words of at most 32748

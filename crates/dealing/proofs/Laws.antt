@@ -6,6 +6,7 @@ use Rattle.dealing.specs.Dealt.{dealing, dealtInto}
 use Rattle.dealing.specs.Laws as law
 use Rattle.dealing.proofs.HeldLaws as held
 use Rattle.dealing.proofs.MadeLaws as made
+use Rattle.dealing.proofs.PlaceLaws as place
 
 pub card-depends : law.CardDepends
 card-depends = held.card-depends
@@ -25,3 +26,12 @@ refusal-keeps d holder out m a b e = lent.refusal-keeps (dealing d holder (lengt
 
 pub result-writes : law.ResultWrites
 result-writes = made.result-writes
+
+pub secret-places : law.SecretPlaces
+secret-places = place.secret-places
+
+pub random-places : law.RandomPlaces
+random-places = place.random-places
+
+pub room-places : law.RoomPlaces
+room-places = place.room-places

@@ -1,16 +1,21 @@
 -- The laws that dealing owes; their proofs are in proofs/Laws.antt.
 -- Assumes nothing.
-use Prim.Native.Nat.{ℕ, _*_, _≤_}
+use Prim.Native.Nat.{ℕ, _+_, _-_, _*_, _≤_, _<_}
 use mathlib.Core.Path.{_≡_}
 use mathlib.Core.List.{List, _++_}
+use mathlib.Core.Logic.{_≢_, _⊎_}
 use lib.ListN.{length, drop}
 use Rattle.lists.specs.Run.{run}
-use Rattle.answer.specs.Outcome.{done, refused}
+use Rattle.answer.specs.declared.Kind.the-variants.{Secret, Random, Room}
+use Rattle.answer.specs.Outcome.{done, refused, number}
+use Rattle.lists.specs.Places.{at}
+use Rattle.lists.specs.Laws.{IsFirst}
+use Rattle.prime.specs.Prime.{tooLarge}
 use Rattle.lists.specs.Some.{_∈_}
 use Rattle.block.specs.Words.{bytesOf}
 use Rattle.block.specs.Layout.{heldAt}
 use Rattle.block.specs.Open.{opening, valueBytes, TrueBlock}
-use Rattle.dealing.specs.Deal.{Deal, askedOf, heldBy, pieceValues, label, blockOf, card}
+use Rattle.dealing.specs.Deal.{Deal, askedOf, dealPieces, heldBy, pieceValues, label, blockOf, card}
 use Rattle.dealing.specs.Dealt.{Made, blockCount, dealing, dealtInto}
 
 -- SCOPE 4: deals that agree in policy, deal number, holder, and in the pieces that this holder has, agree in this card. (Of the policy,
@@ -49,3 +54,27 @@ ResultWrites = (d : Deal) (holder : ℕ) (out : List ℕ) (blocks : ℕ) → dea
     × (length (card d holder) ≡ 512 * blocks)
     × (512 * blocks ≤ length out)
     × (dealtInto d holder out ≡ card d holder ++ drop (512 * blocks) out)
+
+-- ---- at which places dealing refuses
+-- a is the first place of a word above 32748
+abbrev pub LargeFirst : List ℕ → ℕ → Type 0
+LargeFirst words a = IsFirst (λ i. tooLarge (at words i)) 1 (length words + 1) a
+
+-- SECRET: a is 0 where w is not 1 to 16, and only there; else it is the first word that is too large. b is 0.
+abbrev pub SecretPlaces : Type 0
+SecretPlaces = (d : Deal) (holder room a b : ℕ) → dealing d holder room ≡ refused (number Secret) a b
+    → (((a ≡ 0) × (1 ≤ length (d .secret) → length (d .secret) ≤ 16 → ⊥))
+    ⊎ ((1 ≤ length (d .secret)) × (length (d .secret) ≤ 16) × LargeFirst (d .secret) a))
+    × (b ≡ 0)
+
+-- RANDOM: a is 0 where there are not k − 1 words for each word of the secret, and only there; else it is the first that is too large. b is 0.
+abbrev pub RandomPlaces : Type 0
+RandomPlaces = (d : Deal) (holder room a b : ℕ) → dealing d holder room ≡ refused (number Random) a b
+    → (((a ≡ 0) × (length (d .random) ≢ length (d .secret) * (dealPieces d - 1)))
+    ⊎ ((length (d .random) ≡ length (d .secret) * (dealPieces d - 1)) × LargeFirst (d .random) a))
+    × (b ≡ 0)
+
+-- ROOM: a is the number of blocks of the card, for which the lent output is too short; b is 0.
+abbrev pub RoomPlaces : Type 0
+RoomPlaces = (d : Deal) (holder room a b : ℕ) → dealing d holder room ≡ refused (number Room) a b
+    → (a ≡ blockCount d holder) × (room < 512 * a) × (b ≡ 0)
