@@ -12,6 +12,7 @@ use Rattle.joining.specs.Joined.{joining, joinedInto}
 use Rattle.joining.specs.Secret.{secret}
 use Rattle.joining.specs.Laws as law
 use Rattle.joining.proofs.ConflictLaws.{by-first, with-first}
+use Rattle.joining.proofs.PlaceLaws as place
 use Rattle.joining.proofs.SoundLaws as sound
 use Rattle.joining.proofs.PolyLaws as poly
 use Rattle.joining.proofs.OrderLaws as order
@@ -33,6 +34,15 @@ conflict-by-first = by-first
 
 pub conflict-with-first : law.ConflictWithFirst
 conflict-with-first = with-first
+
+pub header-places : law.HeaderPlaces
+header-places = place.header-places
+
+pub mixed-places : law.MixedPlaces
+mixed-places = place.mixed-places
+
+pub room-places : law.RoomPlaces
+room-places = place.room-places
 
 pub joined-secret : law.JoinedSecret
 joined-secret pile room w i e l h =

@@ -2,6 +2,7 @@ pub mod PileLaws
 pub mod TableLaws
 pub mod ConflictLaws
 pub mod ShortLaws
+pub mod PlaceLaws
 pub mod PassedLaws
 pub mod SecretLaws
 pub mod SoundLaws

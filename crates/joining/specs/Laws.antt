@@ -1,16 +1,22 @@
 -- The laws that joining owes; their proofs are in proofs/Laws.antt.
 -- Assumes nothing.
-use Prim.Native.Nat.{ℕ, _-_, _%_, _≤_}
+use Prim.Native.Nat.{ℕ, _+_, _-_, _%_, _≤_, _<_}
 use mathlib.Core.Path.{_≡_}
+use mathlib.Core.Bool.{not}
 use mathlib.Core.Logic.{_≢_}
 use mathlib.Core.List.{List, _++_}
 use lib.ListN.{length, getD, drop}
-use Rattle.answer.specs.Outcome.{done, refused}
+use Rattle.answer.specs.declared.Kind.the-variants.{Room, Header, Mixed}
+use Rattle.answer.specs.Outcome.{done, refused, number}
+use Rattle.lists.specs.Laws.{IsFirst}
 use Rattle.lists.specs.Places.{found}
 use Rattle.prime.specs.Prime.{p, Below}
 use Rattle.field.specs.Poly.{value, One}
-use Rattle.pile.specs.Blocks.{blocks, word, dealAt, firstBlock, TrueBlocks, In}
-use Rattle.joining.specs.Pile.{ownPieces, ownWidth, pieceAt, placeOf, valueOf, differIn, present}
+use Rattle.block.specs.Deals.{sameDeal}
+use Rattle.block.specs.Layout.{rightAt}
+use Rattle.block.specs.Open.{TrueBlock}
+use Rattle.pile.specs.Blocks.{blocks, restFrom, word, dealAt, firstBlock, TrueBlocks, In}
+use Rattle.joining.specs.Pile.{ownDeal, ownPieces, ownWidth, pieceAt, placeOf, valueOf, differIn, present}
 use Rattle.joining.specs.Checks.{contradictedBy, conflictAt}
 use Rattle.joining.specs.Joined.{joining, joinedInto}
 use Rattle.joining.specs.Secret.{secret}
@@ -53,6 +59,23 @@ ConflictByFirst = (pile : List ℕ) → conflictAt pile ≡ firstBlock pile (λ 
 
 abbrev pub ConflictWithFirst : Type 0
 ConflictWithFirst = (pile : List ℕ) → conflictAt pile ≢ 0 → contradictedBy pile (conflictAt pile) ≡ placeOf pile (pieceAt pile (conflictAt pile))
+
+-- ---- at which places joining refuses
+-- HEADER: the blocks before block a are true, and b is the first of its words 1 to 255 that breaks the layout.
+abbrev pub HeaderPlaces : Type 0
+HeaderPlaces = (pile : List ℕ) (room a b : ℕ) → joining pile room ≡ refused (number Header) a b
+    → In pile a
+    × ((c : ℕ) → 1 ≤ c → c < a → TrueBlock (restFrom pile c))
+    × IsFirst (λ i. not (rightAt (restFrom pile a) i)) 1 256 b
+
+-- MIXED: a is the first block that is not of the pile's own deal; b is 0.
+abbrev pub MixedPlaces : Type 0
+MixedPlaces = (pile : List ℕ) (room a b : ℕ) → joining pile room ≡ refused (number Mixed) a b
+    → IsFirst (λ c. not (sameDeal (dealAt pile c) (ownDeal pile))) 1 (blocks pile + 1) a × (b ≡ 0)
+
+-- ROOM: a is w, for which the lent output is too short; b is 0.
+abbrev pub RoomPlaces : Type 0
+RoomPlaces = (pile : List ℕ) (room a b : ℕ) → joining pile room ≡ refused (number Room) a b → (a ≡ ownWidth pile) × (room < a) × (b ≡ 0)
 
 -- cs are the coefficients of a polynomial of degree less than k that has value i of piece j at j, for every block of the pile
 pub record Fits (pile : List ℕ) (i : ℕ) (cs : List ℕ) : Type 0 where
