@@ -1,21 +1,20 @@
--- Lines in order: every list of them ends in its result or in the first line that is given; and which numbers a list can give.
+-- Lines in order: every list of them ends with its result or with the first line that is given; and a pile's lines are its blocks', in order.
 -- Assumes nothing.
-use Prim.Native.Nat.{ℕ, zero, suc, _+_, _≤_}
-use mathlib.Core.Path.{_≡_, refl, ap, subst}
-use mathlib.Core.Bool.{Bool, true, false, _||_}
-use mathlib.Core.List.{List, [], _∷_, _++_, List·Memᴰ, Memᴰ·map}
+use Prim.Native.Nat.{ℕ, zero, suc}
+use mathlib.Core.Path.{_≡_, refl, ap}
+use mathlib.Core.Bool.{Bool, true, false}
+use mathlib.Core.List.{List, [], _∷_, _++_, flatMap}
 use mathlib.Core.Logic.{inl, inr, ⊎-elim}
-use lib.Dec.{ltb}
-use borrow.Author.Tests.{ltb-false}
+use native.Mathlib.Numerals.{add-one}
+use Rattle.lists.specs.Run.{run}
 use Rattle.answer.specs.Outcome.{Outcome, done, refused, number}
 use Rattle.answer.specs.Checks.{Line, pick, firstFail}
 use Rattle.answer.specs.Laws.{Passed}
-use Rattle.answer.proofs.CheckLaws.{passed-none, passed-one, refused-by}
-use Rattle.lists.specs.Some.{_∈_, some}
-use Rattle.lists.proofs.Truth.{never, isn't, neither}
-use Rattle.lists.proofs.SomeLaws.{in-some}
+use Rattle.answer.proofs.CheckLaws.{passed-none, passed-one}
+use Rattle.block.specs.Open.{blockLines}
+use Rattle.pile.specs.Blocks.{restFrom}
 use Rattle.pile.specs.Lines.{linesFrom}
-use Rattle.demands.specs.Demand1.{Speaks, Ends, numbers, eachBlock}
+use Rattle.demands.specs.Demand1.{Speaks, Ends}
 
 -- ---- with a line more in front
 later : {l : Line} {ls : List Line} {m a b : ℕ} → l .given ≡ false → Speaks ls m a b → Speaks (l ∷ ls) m a b
@@ -49,27 +48,8 @@ unfolding firstFail
 ends [] v = inl (passed-none, refl)
 ends (l ∷ ls) v = ends-pick l ls v (l .given) (firstFail ls (done v)) refl (ends ls v)
 
--- ---- which numbers
--- m is below low or above high
-abbrev strays : ℕ → ℕ → ℕ → Bool
-strays low high m = ltb m low || ltb high m
-
-pub refuses : {A : Type 0} (low high : ℕ) (ls : List Line) (ms : List ℕ) (v : A) (m a b : ℕ) → numbers ls ≡ ms → some (strays low high) ms ≡ false
-    → firstFail ls (done v) ≡ refused m a b → (low ≤ m) × (m ≤ high)
-refuses low high ls ms v m a b e none q =
-    let r = refused-by ls v m a b q in
-    let listed : number (r .line .kind) ∈ ms = subst (List·Memᴰ (number (r .line .kind))) e (Memᴰ·map (λ (l : Line). number (l .kind)) (r .listed)) in
-    let i : m ∈ ms = subst (λ (x : ℕ). x ∈ ms) (r .number-is) listed in
-    let n = neither (ltb m low) (ltb high m) (isn't (λ t. never none (in-some (strays low high) ms m i t))) in
-    (ltb-false m low (n .0), ltb-false high m (n .1))
-
 -- ---- blocks in pile order
-pub each-number : (pile : List ℕ) (n a : ℕ) (ls : List Line) → numbers (linesFrom pile a n ++ ls) ≡ eachBlock n ++ numbers ls
-unfolding linesFrom eachBlock
-each-number pile zero a ls = refl
-each-number pile (suc n) a ls = ap (λ (ms : List ℕ). 15 ∷ 16 ∷ 17 ∷ ms) (each-number pile n (a + 1) ls)
-
-pub each-within : (n : ℕ) (ms : List ℕ) → some (strays 12 20) (eachBlock n ++ ms) ≡ some (strays 12 20) ms
-unfolding eachBlock some
-each-within zero ms = refl
-each-within (suc n) ms = each-within n ms
+pub in-order : (pile : List ℕ) (n a : ℕ) → linesFrom pile a n ≡ flatMap (λ a. blockLines (restFrom pile a) a) (run (λ a. a) a n)
+unfolding linesFrom flatMap run
+in-order pile zero a = refl
+in-order pile (suc n) a = ap (λ (ls : List Line). blockLines (restFrom pile a) a ++ ls) (rw (add-one a) (in-order pile n (suc a)))

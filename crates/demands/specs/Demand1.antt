@@ -1,25 +1,30 @@
 -- Demand 1 (SCOPE 10.1): whatever a call is given, it ends in its result or in the refusal that SCOPE 6 has for that input, and a refusal
 -- writes nothing. No slot above 32748 gets into a sum. Assumes nothing.
-use Prim.Native.Nat.{ℕ, zero, suc, _%_, _≤_, _<_}
+use Prim.Native.Nat.{ℕ, _-_, _*_, _%_, _≤_, _<_}
 use mathlib.Core.Path.{_≡_}
 use mathlib.Core.Bool.{true}
-use mathlib.Core.List.{List, [], _∷_, _++_, map}
+use mathlib.Core.List.{List, [], _∷_, _++_, flatMap}
 use mathlib.Core.Logic.{_⊎_}
 use lib.ListN.{length}
+use Rattle.lists.specs.Run.{run}
+use Rattle.lists.specs.Some.{_∈_}
 use Rattle.answer.specs.Outcome.{Outcome, done, refused, number}
-use Rattle.answer.specs.Checks.{Line}
+use Rattle.answer.specs.Checks.{Line, numbers}
+use Rattle.answer.specs.Lent.{noRoom}
 use Rattle.answer.specs.Laws.{Passed}
 use Rattle.prime.specs.Prime.{Below}
-use Rattle.planning.specs.Groups.{pieceCount}
+use Rattle.planning.specs.Groups.{groups, pieceCount}
 use Rattle.planning.specs.Policy.{Policy}
-use Rattle.planning.specs.Planned.{planLines, planned}
+use Rattle.planning.specs.Planned.{people, long, strangers, nobody, opens, clash, wide, planLines, planned}
 use Rattle.block.specs.Layout.{frontWords}
-use Rattle.block.specs.Open.{torn, blockLines, opening, TrueBlock}
+use Rattle.block.specs.Open.{torn, unread, check, header, blockLines, opening, TrueBlock}
 use Rattle.block.specs.Laws.{Refusable}
-use Rattle.dealing.specs.Deal.{Deal}
-use Rattle.dealing.specs.Dealt.{blockCount, dealLines, dealing, dealtInto}
+use Rattle.dealing.specs.Deal.{Deal, dealPieces}
+use Rattle.dealing.specs.Dealt.{badNumber, badHolder, badWidth, badSecret, badCount, badRandom, blockCount, dealLines, dealing, dealtInto}
 use Rattle.pile.specs.Blocks.{blocks, restFrom, word, In}
+use Rattle.pile.specs.Lines.{tornPile, longPile, everyBlock}
 use Rattle.joining.specs.Pile.{ownWidth}
+use Rattle.joining.specs.Checks.{mixed, conflict, short}
 use Rattle.joining.specs.Joined.{joinLines, joining, joinedInto}
 
 -- A call is planning::plan, dealing::deal, joining::join or block::open. None has a `requires`, so each takes every input; that it ends is
@@ -59,44 +64,64 @@ abbrev pub OpenEnds : Type 0
 OpenEnds = (pile : List ℕ) → Ends (openLines pile) (frontWords pile) (opening pile)
 
 -- ---- the order of SCOPE 6.3
--- the numbers of the lines, in their order
-abbrev pub numbers : List Line → List ℕ
-numbers ls = map (λ l. number (l .kind)) ls
-
--- Planning: 1 to 7, of which 2 and 3 are of the required list, then of the forbidden one.
+-- Planning looks at the number of people, at both lists' lengths, then at their sets, the required list first each time; then at the two
+-- lists together, and last at how many groups there are.
 abbrev pub PlanOrder : Type 0
-PlanOrder = (p : Policy) → numbers (planLines p) ≡ 1 ∷ 2 ∷ 2 ∷ 3 ∷ 3 ∷ 4 ∷ 5 ∷ 6 ∷ 7 ∷ []
+PlanOrder = (p : Policy) → planLines p
+    ≡ people (p .people)
+    ∷ long 1 (p .required) ∷ long 2 (p .forbidden)
+    ∷ strangers (p .people) 1 (p .required) ∷ strangers (p .people) 2 (p .forbidden)
+    ∷ nobody (p .required)
+    ∷ opens (p .required)
+    ∷ clash (p .required) (p .forbidden)
+    ∷ wide (groups (p .people) (p .required))
+    ∷ []
 
--- Dealing: those of planning, then 8 to 12; of 10 and 11 the count before the words.
+-- Dealing looks at what planning does, then at the rest of what it is asked for: of the secret and of the randomness the count before the words;
+-- and last at the room.
 abbrev pub DealOrder : Type 0
-DealOrder = (d : Deal) (holder room : ℕ)
-    → numbers (dealLines d holder room) ≡ 1 ∷ 2 ∷ 2 ∷ 3 ∷ 3 ∷ 4 ∷ 5 ∷ 6 ∷ 7 ∷ 8 ∷ 9 ∷ 10 ∷ 10 ∷ 11 ∷ 11 ∷ 12 ∷ []
+DealOrder = (d : Deal) (holder room : ℕ) → dealLines d holder room
+    ≡ planLines (d .policy)
+    ++ badNumber (d .number)
+    ∷ badHolder (d .policy .people) holder
+    ∷ badWidth (d .secret) ∷ badSecret (d .secret)
+    ∷ badCount (dealPieces d - 1) (d .secret) (d .random) ∷ badRandom (d .random)
+    ∷ noRoom (512 * blockCount d holder) (blockCount d holder) room
+    ∷ []
 
--- 15, 16, 17 for each of n blocks
-unfoldable pub eachBlock : ℕ → List ℕ
-eachBlock zero = []
-eachBlock (suc n) = 15 ∷ 16 ∷ 17 ∷ eachBlock n
-
--- Joining: 13 and 14; from the front, for one block after the other, 15 to 17; last, over the pile as a whole, 18 to 20 and 12.
-abbrev pub JoinOrder : Type 0
-JoinOrder = (pile : List ℕ) (room : ℕ) → numbers (joinLines pile room) ≡ 13 ∷ 14 ∷ eachBlock (blocks pile) ++ 18 ∷ 19 ∷ 20 ∷ 12 ∷ []
-
+-- Opening looks at the length, then at the one block.
 abbrev pub OpenOrder : Type 0
-OpenOrder = (pile : List ℕ) → numbers (openLines pile) ≡ 13 ∷ 15 ∷ 16 ∷ 17 ∷ []
+OpenOrder = (pile : List ℕ) → openLines pile ≡ torn pile ∷ unread pile 1 ∷ check pile 1 ∷ header pile 1 ∷ []
 
--- So these are the refusals that each call can answer.
+-- Joining looks at the pile's length, then at each block, then at the whole pile, and last at the room.
+abbrev pub JoinOrder : Type 0
+JoinOrder = (pile : List ℕ) (room : ℕ) → joinLines pile room
+    ≡ tornPile pile ∷ longPile pile ∷ everyBlock pile
+    ++ mixed pile ∷ conflict pile ∷ short pile ∷ noRoom (ownWidth pile) (ownWidth pile) room ∷ []
+
+-- The blocks come in pile order, each with all its lines before the next.
+abbrev pub BlockOrder : Type 0
+BlockOrder = (pile : List ℕ) → everyBlock pile ≡ flatMap (λ a. blockLines (restFrom pile a) a) (run (λ a. a) 1 (blocks pile))
+
+-- ---- a call refuses with the number of one of its lines, and with no other
+abbrev pub Refuses : {A : Type 0} → List Line → Outcome A → Type 0
+Refuses ls o = (m a b : ℕ) → o ≡ refused m a b → m ∈ numbers ls
+
 abbrev pub PlanRefuses : Type 0
-PlanRefuses = (p : Policy) (m a b : ℕ) → planned p ≡ refused m a b → (1 ≤ m) × (m ≤ 7)
+PlanRefuses = (p : Policy) → Refuses (planLines p) (planned p)
 
 abbrev pub DealRefuses : Type 0
-DealRefuses = (d : Deal) (holder room m a b : ℕ) → dealing d holder room ≡ refused m a b → (1 ≤ m) × (m ≤ 12)
+DealRefuses = (d : Deal) (holder room : ℕ) → Refuses (dealLines d holder room) (dealing d holder room)
 
 abbrev pub JoinRefuses : Type 0
-JoinRefuses = (pile : List ℕ) (room m a b : ℕ) → joining pile room ≡ refused m a b → (12 ≤ m) × (m ≤ 20)
+JoinRefuses = (pile : List ℕ) (room : ℕ) → Refuses (joinLines pile room) (joining pile room)
 
--- TORN; UNREAD, CHECK with a = 1; HEADER with a = 1 and a word of 1 to 255.
 abbrev pub OpenRefuses : Type 0
-OpenRefuses = (pile : List ℕ) (m a b : ℕ) → opening pile ≡ refused m a b → Refusable m a b
+OpenRefuses = (pile : List ℕ) → Refuses (openLines pile) (opening pile)
+
+-- Of opening: TORN; UNREAD, CHECK with a = 1; HEADER with a = 1 and a word of 1 to 255.
+abbrev pub OpeningPlaces : Type 0
+OpeningPlaces = (pile : List ℕ) (m a b : ℕ) → opening pile ≡ refused m a b → Refusable m a b
 
 -- What planning refuses, dealing refuses, with the same number and places.
 abbrev pub DealAsPlanned : Type 0
@@ -110,9 +135,10 @@ abbrev pub JoinKeeps : Type 0
 JoinKeeps = (pile out : List ℕ) (m a b : ℕ) → joining pile (length out) ≡ refused m a b → joinedInto pile out ≡ out
 
 -- ---- No slot above 32748 gets into a sum.
--- Of the code: a word enters a sum in block's `weigh` and in field's `value_at`, `piece_of` and `join_word`, each of which requires that it
--- is at most 32748, and every caller shows it. Of what is answered: joining and dealing give a result only where every slot of every block,
--- and every word of the secret and of the randomness, is at most 32748.
+-- Of the code: the sums mod p are in block's `weigh` and in field's `value_at`, `piece_of` and `join_word`, each of which requires that what
+-- enters is at most 32748, and every caller shows it; words that are lengths are added to offsets only after the checks. That no other function
+-- sums words is seen by reading the code, and not proved. Of what is answered: joining and dealing give a result only where every slot of every
+-- block, and every word of the secret and of the randomness, is at most 32748.
 abbrev pub JoinSmall : Type 0
 JoinSmall = (pile : List ℕ) (room w : ℕ) → joining pile room ≡ done w → (a i : ℕ) → In pile a → 1 ≤ i → i ≤ 256 → word pile a i ≤ 32748
 
