@@ -13,3 +13,4 @@ pub mod HideLaws
 pub mod RowLaws
 pub mod Demand3
 pub mod ReaderLaws
+pub mod Readings

@@ -27,8 +27,9 @@ use Rattle.joining.specs.Pile.{ownWidth}
 use Rattle.joining.specs.Checks.{mixed, conflict, short}
 use Rattle.joining.specs.Joined.{joinLines, joining, joinedInto}
 
--- A call is planning::plan, dealing::deal, joining::join or block::open. None has a `requires`, so each takes every input; that it ends is
--- what proving a function shows; and its contract says that its answer is `planned`, `dealing`, `joining` or `opening` of its arguments.
+-- A call is planning::plan, dealing::deal, joining::join or block::open; specs/Readings has the others. None has a `requires`, so each takes
+-- every input; that it ends is what proving a function shows; and its contract says that its answer is `planned`, `dealing`, `joining` or
+-- `opening` of its arguments.
 
 -- ---- in its result or in a refusal
 -- the refusal m, a, b is that of the first of the lines that is given: those before it pass
