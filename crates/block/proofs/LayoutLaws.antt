@@ -15,7 +15,8 @@ use Rattle.lists.proofs.Truth.{both, and-all}
 use Rattle.lists.proofs.FirstLaws.{first-none, first-all, none-in, skip, first-same}
 use Rattle.block.specs.declared.Label.{Label}
 use Rattle.block.specs.Words.{wordAt}
-use Rattle.block.specs.Layout.{widthOf, heldAt, rangeAt, Ranged, labelOf, valuesOf, rightAt, filled, firstWrong, Layout}
+use Rattle.block.specs.Layout.{widthOf, heldAt, rangeAt, Ranged, labelOf, valuesOf, rightAt, firstWrong, Layout}
+use Rattle.block.specs.Inner.{filled}
 
 -- ---- past word 7 the table has the values, and no range
 pub held-rest : (l : Label) (vs : List ℕ) (i : ℕ) → 8 ≤ i → heldAt l vs i ≡ getD vs (i - 8) 0

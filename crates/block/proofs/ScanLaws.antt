@@ -8,7 +8,8 @@ use borrow.Author.Tests.{lt-ltb, le-ltb, eq-eqb, ne-eqb}
 use Rattle.lists.specs.Places.{firstIn}
 use Rattle.lists.proofs.FirstLaws.{first-hit, first-miss, first-none}
 use Rattle.block.specs.Words.{wordAt, weighted, checkOf}
-use Rattle.block.specs.Open.{above, firstAbove, cleanCheck}
+use Rattle.block.specs.Open.{above, firstAbove}
+use Rattle.block.specs.Inner.{cleanCheck}
 use Rattle.block.proofs.SumLaws.{weighted-step}
 
 pub record Scanning (b : List ℕ) (sum i : ℕ) : Type 0 where

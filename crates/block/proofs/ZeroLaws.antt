@@ -1,6 +1,6 @@
 -- Bytes whose sum is 0 are all 0, and so are the words that they make.
 -- Assumes nothing.
-use mathlib.Core.Path.{_≡_, refl, sym, ap, _∙_}
+use mathlib.Core.Path.{_≡_, sym, ap, _∙_}
 use mathlib.Core.Bool.{not}
 use mathlib.Core.Logic.{⊎-elim}
 use mathlib.Core.List.{List}
@@ -14,7 +14,7 @@ use lib.Seq.{getD-take, getD-drop}
 use Rattle.lists.specs.Places.{firstIn}
 use Rattle.lists.proofs.FirstLaws.{first-all}
 use Rattle.block.specs.Words.{wordAt}
-use Rattle.block.specs.Layout.{filled}
+use Rattle.block.specs.Inner.{filled}
 
 -- the sum of the first i bytes is not above 255 for each, and is 0 only where they are all 0
 pub record Summed (b : List ℕ) (sum i : ℕ) : Type 0 where

@@ -78,7 +78,3 @@ firstWrong b = firstIn (λ i. not (rightAt b i)) 1 256
 pub record Layout (b : List ℕ) : Type 0 where
   pub word : (i : ℕ) → 1 ≤ i → i ≤ 255 → wordAt b i ≡ heldAt (labelOf b) (valuesOf b) i
   pub ranged : Ranged (labelOf b)
-
--- word i is not 0
-abbrev pub filled : List ℕ → ℕ → Bool
-filled b i = not (eqb (wordAt b i) 0)

@@ -3,4 +3,5 @@ pub mod Deals
 pub mod Layout
 pub mod Open
 pub mod Written
+pub mod Inner
 pub mod Laws

@@ -2,7 +2,7 @@
 -- Assumes nothing.
 use Prim.Native.Nat.{ℕ, _*_, _≤_}
 use mathlib.Core.Path.{_≡_}
-use mathlib.Core.Bool.{Bool, cond, not}
+use mathlib.Core.Bool.{Bool, not}
 use mathlib.Core.List.{List, [], _∷_, _++_}
 use lib.ListN.{length, take, drop}
 use lib.Dec.{eqb, ltb}
@@ -24,10 +24,6 @@ above b i = tooLarge (wordAt b i)
 -- the first of the 256 words that is above 32748, or 0
 unfoldable pub firstAbove : List ℕ → ℕ
 firstAbove b = firstIn (above b) 1 257
-
--- the check of a block in which no word is above 32748, and 0 where one is: such a word enters no sum
-unfoldable pub cleanCheck : List ℕ → ℕ
-cleanCheck b = cond (eqb (firstAbove b) 0) (checkOf b) 0
 
 -- 13 TORN: fewer than 512 bytes
 abbrev pub torn : List ℕ → Line

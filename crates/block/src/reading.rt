@@ -12,8 +12,10 @@ ghost use lib.ListN.{length, getD};
 ghost use Rattle.answer.specs.Outcome.{outcome, done};
 ghost use Rattle.answer.specs.Checks.{firstFail};
 ghost use Rattle.lists.specs.Places.{firstIn};
-ghost use Rattle.block.specs.Layout.{frontWords, within, rightAt, filled, firstWrong};
-ghost use Rattle.block.specs.Open.{firstAbove, cleanCheck, slotLines, blockLines, opening, valueBytes, valueStart, wordsOf, opened};
+ghost use Rattle.block.specs.Layout.{frontWords, within, rightAt, firstWrong};
+ghost use Rattle.block.specs.Inner.{filled};
+ghost use Rattle.block.specs.Open.{firstAbove, slotLines, blockLines, opening, valueBytes, valueStart, wordsOf, opened};
+ghost use Rattle.block.specs.Inner.{cleanCheck};
 
 // What one pass over a block finds: the first word above 32748, or 0, and the check of words 1 to 255 where there is none.
 struct Scanned {

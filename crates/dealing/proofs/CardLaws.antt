@@ -19,7 +19,7 @@ use Rattle.block.proofs.BodyLaws.{length-block, builds}
 use Rattle.dealing.specs.declared.Asked.{Asked}
 use Rattle.dealing.specs.Deal.{labelFor, blockFor}
 use Rattle.lists.specs.Flat.{flat}
-use Rattle.dealing.specs.Rows.{Ready, heldIn}
+use Rattle.dealing.specs.Inner.{Ready, heldIn}
 
 -- ---- the pieces held, row by row; rows count from 0
 -- the row does not mark the holder

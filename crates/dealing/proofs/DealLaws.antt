@@ -18,7 +18,7 @@ use Rattle.planning.specs.Planned.{planLines, planned, plannedRows}
 use Rattle.planning.proofs.Laws.{accepted-listed, some-piece, rows-mean}
 use Rattle.dealing.specs.Deal.{Deal, cardOver, askedOf, dealPieces, heldBy, card}
 use Rattle.dealing.specs.Dealt.{inputLines, cardLines, blockCount, dealLines, dealing, dealtInto}
-use Rattle.dealing.specs.Rows.{heldIn, roomSays}
+use Rattle.dealing.specs.Inner.{heldIn, roomSays}
 use Rattle.dealing.proofs.InputLaws.{lines-ready}
 
 -- refusals 8 to 11 of a deal

@@ -17,7 +17,7 @@ use Rattle.field.proofs.Sums.{below-within}
 use Rattle.lists.proofs.Truth.{neither}
 use Rattle.dealing.specs.declared.Asked.{Asked}
 use Rattle.dealing.specs.Dealt.{outside, badNumber, badHolder, badWidth, badSecret, badCount, badRandom, inputLines}
-use Rattle.dealing.specs.Rows.{Ready}
+use Rattle.dealing.specs.Inner.{Ready}
 
 -- ---- a number in its range
 pub in-range : (high v : ℕ) → outside high v ≡ false → (1 ≤ v) × (v ≤ high)

@@ -25,7 +25,7 @@ use Rattle.block.specs.Written.{Buildable}
 use Rattle.block.proofs.Laws.{opens-written}
 use Rattle.dealing.specs.Deal.{Deal, again, blockFor, askedOf, dealPieces, heldBy, pieceValues, label, blockOf, card}
 use Rattle.dealing.specs.Dealt.{blockCount, dealLines, dealing, dealtInto, Made}
-use Rattle.dealing.specs.Rows.{Ready, roomSays}
+use Rattle.dealing.specs.Inner.{Ready, roomSays}
 use Rattle.dealing.proofs.HeldLaws.{held-in}
 use Rattle.dealing.proofs.InputLaws.{lines-ready, ready-lines}
 use Rattle.dealing.proofs.CardLaws.{ready-builds, block-size}

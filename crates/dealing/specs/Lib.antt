@@ -1,4 +1,4 @@
 pub mod Deal
 pub mod Dealt
-pub mod Rows
+pub mod Inner
 pub mod Laws

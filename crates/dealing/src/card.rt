@@ -12,7 +12,7 @@ ghost use Rattle.answer.specs.Outcome.{outcome};
 ghost use Rattle.lists.specs.Over.{over};
 ghost use Rattle.answer.specs.Lent.{left};
 ghost use Rattle.dealing.specs.Deal.{blockFor, cardOver};
-ghost use Rattle.dealing.specs.Rows.{Ready, heldIn, roomSays};
+ghost use Rattle.dealing.specs.Inner.{Ready, heldIn, roomSays};
 
 // How many of the first k rows do not mark the holder.
 fn held_count(rows: &[[bool; 8]; 70], k: usize, holder: usize) -> usize

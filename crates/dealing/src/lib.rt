@@ -13,7 +13,7 @@ ghost use Rattle.answer.specs.Lent.{left};
 ghost use Rattle.planning.specs.Policy.{policyOf};
 ghost use Rattle.dealing.specs.Deal.{dealFrom, cardOver};
 ghost use Rattle.dealing.specs.Dealt.{cardLines, dealing, dealtInto};
-ghost use Rattle.dealing.specs.Rows.{heldIn};
+ghost use Rattle.dealing.specs.Inner.{heldIn};
 
 // Which card is asked for: of which deal, whose, among so many people.
 pub struct Asked {

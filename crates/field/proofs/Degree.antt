@@ -7,11 +7,15 @@ use native.Mathlib.Omega.{arith}
 use lib.Dec.{lit<}
 use lib.ListN.{length}
 use Rattle.prime.specs.Prime.{p, minus}
-use Rattle.field.specs.Poly.{value, points}
+use Rattle.field.specs.Poly.{value}
 use Rattle.lists.specs.Run.{run}
 use Rattle.field.specs.Joined.{diffs, joinedIn, joined}
 use Rattle.prime.proofs.Mod.{_≈_, _then_, flip, from≡, add≈, mul≈, mod≈, mod-below, small, minus≈, minus-below}
 use Rattle.lists.proofs.RunLaws.{run-length}
+
+-- the values mod p at x, x + 1, .., n of them, of the polynomial cs
+abbrev pub points : List ℕ → ℕ → ℕ → List ℕ
+points cs x n = run (λ j. value cs j % p) x n
 
 -- the differences of f, mod p
 abbrev pub rise : (ℕ → ℕ) → ℕ → ℕ

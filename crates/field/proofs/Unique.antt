@@ -7,12 +7,12 @@ use native.Mathlib.Omega.{arith}
 use native.Mathlib.Nat.{suc-inj, suc-ne-zero}
 use lib.ListN.{length}
 use Rattle.prime.specs.Prime.{p, Below}
-use Rattle.field.specs.Poly.{value, points, Through}
+use Rattle.field.specs.Poly.{value, Through}
 use Rattle.field.specs.Joined.{joined}
 use Rattle.prime.proofs.Mod.{_≈_, small}
 use Rattle.prime.proofs.Prime.{cancel}
 use Rattle.lists.proofs.RunLaws.{run-is, run-same}
-use Rattle.field.proofs.Degree.{joined-points}
+use Rattle.field.proofs.Degree.{points, joined-points}
 use Rattle.field.proofs.Sums.{below-rest}
 
 pub value-zero : (c : ℕ) (cs : List ℕ) → value (c ∷ cs) 0 ≡ c

@@ -5,7 +5,6 @@ use mathlib.Core.List.{List, [], _∷_}
 use Prim.Native.Nat.{ℕ, _+_, _-_, _*_, _%_, _≤_}
 use lib.ListN.{length, getD}
 use Rattle.prime.specs.Prime.{p, Below}
-use Rattle.lists.specs.Run.{run}
 
 -- c₀ + c₁·x + c₂·x² + ..: the value at x of the polynomial with these coefficients, the lowest first, not reduced
 unfoldable pub value : List ℕ → ℕ → ℕ
@@ -15,10 +14,6 @@ value (c ∷ cs) x = c + x * value cs x
 -- SCOPE 3: piece j of the word d, whose coefficients a(1), .., a(k−1) are cs; any of them may be zero
 abbrev pub piece : ℕ → List ℕ → ℕ → ℕ
 piece d cs j = value (d ∷ cs) j % p
-
--- the values mod p at x, x + 1, .., n of them, of the polynomial cs
-abbrev pub points : List ℕ → ℕ → ℕ → List ℕ
-points cs x n = run (λ j. value cs j % p) x n
 
 -- cs is a polynomial of degree less than k that has piece 1 as its value at 1, and so on up to k, where ys are the k pieces: k coefficients
 pub record Through (cs ys : List ℕ) : Type 0 where

@@ -19,7 +19,7 @@ use Rattle.pile.specs.Lines.{everyBlock}
 use Rattle.pile.proofs.LineLaws.{blocks-true}
 use Rattle.joining.specs.Pile.{ownPieces, placeOf, present}
 use Rattle.joining.specs.Checks.{mixedAt, conflictAt, pileLines}
-use Rattle.joining.specs.True.{Full}
+use Rattle.joining.specs.Inner.{Full}
 use Rattle.joining.proofs.PileLaws.{unmixed}
 
 pub record Accepted (pile : List ℕ) : Type 0 where

@@ -17,7 +17,7 @@ use Rattle.block.proofs.RangeLaws.{true-ranges}
 use Rattle.pile.specs.Blocks.{blocks, In, restFrom, dealAt, TrueBlocks}
 use Rattle.joining.specs.Pile.{ownBlock, ownDeal, ownPieces, ownWidth, pieceAt}
 use Rattle.joining.specs.Checks.{mixedAt}
-use Rattle.joining.specs.True.{Unmixed}
+use Rattle.joining.specs.Inner.{Unmixed}
 
 -- a test of two numbers, by what they are
 pub equal : {x y u v : ℕ} → x ≡ u → y ≡ v → x ≡ y → eqb u v ≡ true

@@ -10,10 +10,10 @@ use Rattle.field.specs.Poly.{value, Through, One}
 use Rattle.field.specs.Secret.{column}
 use Rattle.field.proofs.SecretLaws.{column-length, column-at}
 use Rattle.field.proofs.Laws.{secret-one}
-use Rattle.pile.specs.Blocks.{blocks, In}
+use Rattle.pile.specs.Blocks.{In}
 use Rattle.joining.specs.Pile.{ownPieces, ownWidth, pieceAt, placeOf, valueAt}
 use Rattle.joining.specs.Secret.{secret}
-use Rattle.joining.specs.True.{Full}
+use Rattle.joining.specs.Inner.{Full}
 use Rattle.joining.specs.Laws.{Joins, Fits}
 use Rattle.joining.proofs.PileLaws.{pieces-in, piece-in}
 use Rattle.joining.proofs.SecretLaws.{value-below}

@@ -16,7 +16,7 @@ use Rattle.field.specs.Secret.{column}
 use Rattle.field.proofs.SecretLaws.{column-length}
 use Rattle.pile.proofs.PileLaws.{word-small}
 use Rattle.joining.specs.Pile.{ownPieces, ownWidth, placeOf, valueAt}
-use Rattle.joining.specs.True.{Full}
+use Rattle.joining.specs.Inner.{Full}
 use Rattle.joining.proofs.PileLaws.{width-in}
 use Rattle.joining.proofs.TableLaws.{place-most}
 

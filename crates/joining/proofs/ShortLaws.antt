@@ -23,7 +23,7 @@ use Rattle.pile.specs.Blocks.{blocks, restFrom}
 use Rattle.pile.specs.Lines.{linesFrom, everyBlock}
 use Rattle.joining.specs.Pile.{ownBlock, ownPieces, placeOf, present}
 use Rattle.joining.specs.Checks.{mixedAt, conflictAt, short, pileLines}
-use Rattle.joining.specs.True.{placed}
+use Rattle.joining.specs.Inner.{placed}
 
 -- ---- one turn of the count: piece j + 1
 here : (j : ℕ) → 1 + j - 1 ≡ j

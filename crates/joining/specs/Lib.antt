@@ -2,5 +2,5 @@ pub mod Pile
 pub mod Checks
 pub mod Secret
 pub mod Joined
-pub mod True
+pub mod Inner
 pub mod Laws

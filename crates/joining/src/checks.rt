@@ -13,7 +13,7 @@ ghost use Rattle.lists.specs.Places.{those};
 ghost use Rattle.pile.specs.Blocks.{blocks, In, TrueBlocks};
 ghost use Rattle.joining.specs.Pile.{ownDeal, ownWidth, placeOf, differIn};
 ghost use Rattle.joining.specs.Checks.{mixedAt, conflict, wholeLines, pileLines};
-ghost use Rattle.joining.specs.True.{Unmixed, placed};
+ghost use Rattle.joining.specs.Inner.{Unmixed, placed};
 
 // The pile's own deal.
 pub fn own_deal(pile: &[u8]) -> DealWords

@@ -10,7 +10,7 @@ ghost use Rattle.field.specs.Lagrange.{Weights};
 ghost use Rattle.field.specs.Secret.{column};
 ghost use Rattle.joining.specs.Pile.{ownPieces, ownWidth, placeOf, valueAt};
 ghost use Rattle.joining.specs.Secret.{secret};
-ghost use Rattle.joining.specs.True.{Full};
+ghost use Rattle.joining.specs.Inner.{Full};
 
 // Value i of each piece 1 to k over the front of `values`, that of piece j at j - 1.
 fn write_column(pile: &[u8], table: &[usize; 70], k: usize, i: usize, values: &mut [u16])

@@ -7,7 +7,8 @@ ghost use lib.ListN.{getD};
 ghost use Rattle.lists.specs.Places.{those};
 ghost use Rattle.planning.specs.Groups.{marked};
 ghost use Rattle.planning.specs.Policy.{policyOf};
-ghost use Rattle.print.specs.Written.{Room, Writes, Prints};
+ghost use Rattle.print.specs.Written.{Prints};
+ghost use Rattle.print.specs.Inner.{Room, Writes};
 ghost use Rattle.print.specs.Lines.{spacedAll};
 ghost use Rattle.listing.specs.Listing.{label, firstLine, pieceLine, holderLine, rising, listingBy, listedPlan, listed};
 

@@ -8,7 +8,7 @@ use Prim.Native.Nat.{ℕ, zero, suc, _+_, _*_, _/_, _%_, _^_, _≤_, _<_}
 use native.Mathlib.Nat.{pow-suc}
 use native.Mathlib.Numerals.{add-one}
 use native.Mathlib.Omega.{arith}
-use lib.ListN.{length, set, replicate, length-set}
+use lib.ListN.{set, replicate, length-set}
 use lib.Pow.{pow-mono}
 use lib.Seq.{getD-set-same, getD-set-other}
 use borrow.Author.Count.{below-none, below-more}
@@ -16,7 +16,7 @@ use Rattle.lists.proofs.ThoseLaws.{those-same}
 use Rattle.planning.specs.Sets.{worth, member}
 use Rattle.lists.specs.Some.{each}
 use Rattle.planning.specs.Groups.{tight, maximalBy, groupsBy}
-use Rattle.planning.specs.Flags.{Flags, flagged}
+use Rattle.planning.specs.Inner.{Flags, flagged}
 use Rattle.lists.proofs.Truth.{never, isn't, and-both, or-cases, or-l, or-r}
 use Rattle.lists.proofs.EachLaws.{each-at, each-same}
 use Rattle.planning.proofs.SetLaws.{next-bit, bit-next, back, more-lt, person-lt}

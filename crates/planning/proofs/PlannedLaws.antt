@@ -16,7 +16,7 @@ use Rattle.planning.specs.declared.table.Plan.{Plan}
 use Rattle.planning.specs.Groups.{groups, pieceCount, rowsOf}
 use Rattle.planning.specs.Policy.{Policy}
 use Rattle.planning.specs.Planned.{clash, wide, listLines, planLines, planned, rowsFor, plannedRows}
-use Rattle.planning.specs.Flags.{fillSays, Filled}
+use Rattle.planning.specs.Inner.{fillSays, Filled}
 use Rattle.planning.specs.Laws.{Listed}
 use Rattle.planning.proofs.ListedLaws.{listed}
 

@@ -2,5 +2,5 @@ pub mod Sets
 pub mod Groups
 pub mod Policy
 pub mod Planned
-pub mod Flags
+pub mod Inner
 pub mod Laws

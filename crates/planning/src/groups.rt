@@ -9,7 +9,7 @@ use answer::Kind;
 ghost use mathlib.Core.Path.{_≡_};
 ghost use Prim.Native.Nat.{_^_, _≤_, _<_};
 ghost use Rattle.planning.specs.Groups.{authorised, maximalBy, groupsBy};
-ghost use Rattle.planning.specs.Flags.{Flags, Filled, flagged};
+ghost use Rattle.planning.specs.Inner.{Flags, Filled, flagged};
 
 // For each group of the people, whether it is authorised.
 pub fn flags(people: usize, required: &[u16]) -> [bool; 256]

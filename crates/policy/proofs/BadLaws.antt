@@ -14,7 +14,8 @@ use Rattle.answer.specs.Outcome.{done, refused, number}
 use Rattle.answer.specs.Checks.{firstFail}
 use Rattle.lists.proofs.FirstLaws.{first-hit, none-in, first-all}
 use Rattle.policy.specs.declared.Found.the-variants.{Nothing}
-use Rattle.policy.specs.Policy.{lines, lineLength, lineOf, peopleIn, lineSays, isNothing, isBad, badAt, badLine, policyIn, readPolicy}
+use Rattle.policy.specs.Policy.{lines, lineOf, peopleIn, lineSays, isNothing, isBad, badAt, badLine, policyIn, readPolicy}
+use Rattle.policy.specs.Inner.{lineLength}
 use Rattle.policy.proofs.LinesLaws.{line-split}
 
 -- ---- the whole text

@@ -13,7 +13,8 @@ use lib.Seq.{drop-cons, drop-drop}
 use Rattle.policy.specs.declared.Found.{Found}
 use Rattle.policy.specs.declared.Found.the-variants.{Number, Nothing}
 use Rattle.policy.specs.declared.Told.the-variants.{Bad}
-use Rattle.policy.specs.Policy.{inFront, lines, lineLength, begins, peopleWord, oneDigit, peopleIn, needWord, barWord, members, needs, bars, lineSays}
+use Rattle.policy.specs.Policy.{inFront, lines, begins, peopleWord, oneDigit, peopleIn, needWord, barWord, members, needs, bars, lineSays}
+use Rattle.policy.specs.Inner.{lineLength}
 
 -- ---- what stands at a place
 pub one : (s : List ℕ) (i : ℕ) → i < length s → drop i s ≡ getD s i 0 ∷ drop (i + 1) s

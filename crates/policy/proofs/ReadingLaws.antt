@@ -17,7 +17,8 @@ use Rattle.policy.specs.declared.Sets.{Sets}
 use Rattle.policy.specs.declared.Found.the-variants.{Number}
 use Rattle.policy.specs.declared.Told.{Told}
 use Rattle.policy.specs.declared.Told.the-variants.{Need, Bar, Bad}
-use Rattle.policy.specs.Policy.{lines, lineLength, lineOf, peopleIn, lineSays, isNothing, isBad, addNeed, addBar, requiredIn, forbiddenIn}
+use Rattle.policy.specs.Policy.{lines, lineOf, peopleIn, lineSays, isNothing, isBad, addNeed, addBar, requiredIn, forbiddenIn}
+use Rattle.policy.specs.Inner.{lineLength}
 use Rattle.policy.specs.Policy.{badAt, badLine, policyIn, readPolicy, Keeps}
 use Rattle.print.proofs.DecimalLaws.{below}
 use Rattle.policy.proofs.LinesLaws.{length-most, lineAt, behind, behind-most, behind-more, lines-at, no-lines}

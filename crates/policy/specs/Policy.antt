@@ -3,7 +3,7 @@
 use mathlib.Core.Path.{_≡_}
 use mathlib.Core.Bool.{Bool, true, false, cond, _&&_}
 use mathlib.Core.List.{List, [], _∷_, _++_}
-use Prim.Native.Nat.{ℕ, suc, _+_, _-_, max}
+use Prim.Native.Nat.{ℕ, _+_, _-_, max}
 use lib.Dec.{ltb, leb, eqb}
 use lib.ListN.{length, take, drop, getD, replicate}
 use Rattle.answer.specs.declared.Kind.the-variants.{Text}
@@ -29,11 +29,6 @@ inFront b (l ∷ ls) = (b ∷ l) ∷ ls
 unfoldable pub lines : List ℕ → List (List ℕ)
 lines [] = []
 lines (b ∷ text) = cond (eqb b 10) ((b ∷ []) ∷ lines text) (inFront b (lines text))
-
--- how many bytes the first line has
-unfoldable pub lineLength : List ℕ → ℕ
-lineLength [] = 0
-lineLength (b ∷ text) = cond (eqb b 10) 1 (suc (lineLength text))
 
 -- whether a line begins with the word
 unfoldable pub begins : List ℕ → List ℕ → Bool

@@ -7,7 +7,8 @@ ghost use lib.ListN.{length, drop};
 ghost use Rattle.answer.specs.declared.Kind.the-variants.{Text};
 ghost use Rattle.answer.specs.Outcome.{refused, number};
 ghost use Rattle.policy.specs.declared.Found.the-variants.{Number};
-ghost use Rattle.policy.specs.Policy.{lineLength, members, peopleIn, lineSays, lines, lineOf, readPolicy, Keeps, Holds};
+ghost use Rattle.policy.specs.Policy.{members, peopleIn, lineSays, lines, lineOf, readPolicy, Keeps, Holds};
+ghost use Rattle.policy.specs.Inner.{lineLength};
 ghost use Rattle.policy.specs.Policy.{begins as Policy·begins};
 
 // A number that was looked for in a line: the first line's digit, or a set.

@@ -12,7 +12,7 @@ use lib.Dec.{ltb}
 use lib.ListN.{length, getD, set, length-append, List·getD-append}
 use lib.Seq.{getD-at}
 use Rattle.print.specs.Decimal.{digit, digits, decimal, meaning}
-use Rattle.print.specs.Written.{written}
+use Rattle.print.specs.Inner.{written}
 use Rattle.print.specs.Laws.{Spells}
 use Rattle.print.proofs.WrittenLaws.{stored-last, written-none}
 

@@ -9,7 +9,7 @@ use lib.Seq.{take-suc}
 use Rattle.answer.specs.declared.Kind.{Kind}
 use Rattle.answer.specs.declared.Kind.the-variants as kind
 use Rattle.answer.specs.Outcome.{number}
-use Rattle.print.specs.Written.{Room, Writes}
+use Rattle.print.specs.Inner.{Room, Writes}
 use Rattle.print.specs.Lines.{spaced, spacedAll, feed, refusedWord, secretWord, refusedLine, secretLine}
 use Rattle.print.proofs.DecimalLaws.{few}
 use Rattle.print.proofs.WrittenLaws.{_then_, room-first, room-next, retold}

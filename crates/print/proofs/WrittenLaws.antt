@@ -9,7 +9,8 @@ use Prim.Native.Nat.{ℕ, zero, suc, _+_, _-_, _≤_, _<_}
 use lib.ListN.{length, take, drop, getD, set, length-append, length-set, length-drop, take-append-drop}
 use lib.Seq.{take-suc, length-take-le, set-at, take-at, drop-append-add, drop-drop, drop-cons, getD-set-same, drop-set-lt, take-set-le}
 use Rattle.lists.specs.Over.{over}
-use Rattle.print.specs.Written.{written, Room, Writes, Prints}
+use Rattle.print.specs.Written.{Prints}
+use Rattle.print.specs.Inner.{written, Room, Writes}
 
 -- ---- one write
 pub written-none : (at : ℕ) (old : List ℕ) → written at [] old ≡ old

@@ -1,4 +1,5 @@
 pub mod Decimal
 pub mod Written
 pub mod Lines
+pub mod Inner
 pub mod Laws

@@ -2,7 +2,7 @@
 ghost use mathlib.Core.Path.{_≡_};
 ghost use lib.ListN.{length};
 ghost use Rattle.print.specs.Decimal.{decimal};
-ghost use Rattle.print.specs.Written.{Room, Writes};
+ghost use Rattle.print.specs.Inner.{Room, Writes};
 
 // How many digits n has.
 pub fn width(n: usize) -> usize

@@ -1,7 +1,8 @@
 // The refusal line and the secret line, written into a lent buffer.
 ghost use lib.ListN.{take};
 ghost use Rattle.answer.specs.Outcome.{number};
-ghost use Rattle.print.specs.Written.{Room, Writes, Prints};
+ghost use Rattle.print.specs.Written.{Prints};
+ghost use Rattle.print.specs.Inner.{Room, Writes};
 ghost use Rattle.print.specs.Lines.{spaced, spacedAll, refusedLine, secretLine};
 
 // Writes the bytes of word from at on, and answers the index behind them.

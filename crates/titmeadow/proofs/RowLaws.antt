@@ -21,7 +21,7 @@ use Rattle.planning.specs.Groups.{maximalBy, groupsBy, groups, authorised, rows
 use Rattle.planning.specs.Policy.{Policy}
 use Rattle.planning.specs.Planned.{planned, plannedRows, rowsFor}
 use Rattle.planning.proofs.Laws.{accepted-listed, some-piece}
-use Rattle.titmeadow.specs.Said.{numberOf}
+use Rattle.titmeadow.specs.Inner.{numberOf}
 
 -- ---- a row's number is its group: one test that antt computes over the 256 groups
 right : ℕ → Bool

@@ -1,9 +1,7 @@
 -- What the exported functions answer: three numbers, and what they leave in the buffers of fixed size that are lent to them.
 -- Assumes nothing.
-use mathlib.Core.Bool.{Bool, false, cond}
 use mathlib.Core.List.{List}
-use Prim.Native.Nat.{ℕ, _+_}
-use lib.ListN.{getD}
+use Prim.Native.Nat.{ℕ}
 use Rattle.answer.specs.Outcome.{Outcome, done, refused}
 use Rattle.answer.specs.Lent.{left}
 use Rattle.planning.specs.Groups.{groups}
@@ -22,12 +20,6 @@ said (refused m a b) = record { number = m; a = a; b = b }
 abbrev pub seven : {A : Type 0} → Outcome A → Outcome ℕ
 seven (done v) = done 7
 seven (refused m a b) = refused m a b
-
--- the group whose row of member marks this is: the bit of person i has the value 2^(i−1)
-unfoldable pub numberOf : List Bool → ℕ
-numberOf row =
-    cond (getD row 0 false) 1 0 + cond (getD row 1 false) 2 0 + cond (getD row 2 false) 4 0 + cond (getD row 3 false) 8 0
-    + cond (getD row 4 false) 16 0 + cond (getD row 5 false) 32 0 + cond (getD row 6 false) 64 0 + cond (getD row 7 false) 128 0
 
 -- the group of each piece over the front of what was lent; refused, nothing changes
 abbrev pub groupsInto : Policy → List ℕ → List ℕ

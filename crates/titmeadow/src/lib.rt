@@ -15,7 +15,8 @@ ghost use Rattle.block.specs.Open.{opening, wordsOf};
 ghost use Rattle.dealing.specs.Deal.{dealFrom};
 ghost use Rattle.dealing.specs.Dealt.{dealing, dealtInto};
 ghost use Rattle.joining.specs.Joined.{joining, joinedInto};
-ghost use Rattle.titmeadow.specs.Said.{said, seven, numberOf, groupsInto, headInto};
+ghost use Rattle.titmeadow.specs.Said.{said, seven, groupsInto, headInto};
+ghost use Rattle.titmeadow.specs.Inner.{numberOf};
 
 // Number 0: a result, its value in a; else a refusal and its two places.
 #[repr(C)]

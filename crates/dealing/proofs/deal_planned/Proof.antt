@@ -10,7 +10,7 @@ use Rattle.answer.specs.Checks.{Line}
 use Rattle.answer.specs.Lent.{noRoom}
 use Rattle.answer.proofs.CheckLaws.{stops, goes-on, done-passed}
 use Rattle.dealing.specs.Dealt.{inputLines}
-use Rattle.dealing.specs.Rows.{heldIn}
+use Rattle.dealing.specs.Inner.{heldIn}
 use Rattle.dealing.proofs.InputLaws.{lines-ready}
 use Rattle.dealing.proofs.deal_planned.Statement.{statement}
 use Rattle.dealing.proofs.deal_planned.Tie as tie

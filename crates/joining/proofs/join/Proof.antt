@@ -17,7 +17,7 @@ use Rattle.joining.specs.Pile.{ownWidth}
 use Rattle.joining.specs.Checks.{pileLines}
 use Rattle.joining.specs.Joined.{joinLines, joining, joinedInto}
 use Rattle.joining.specs.Secret.{secret}
-use Rattle.joining.specs.True.{Full}
+use Rattle.joining.specs.Inner.{Full}
 use Rattle.joining.proofs.PileLaws.{pieces-in}
 use Rattle.joining.proofs.PassedLaws.{accepted}
 use borrow.Author.Needs.{needs}

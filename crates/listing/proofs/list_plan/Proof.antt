@@ -7,12 +7,13 @@ use native.Mathlib.Omega.{arith}
 use Prim.Native.Nat.{ℕ, _≤_}
 use denote.Ref.{now}
 use lib.ListN.{length}
-use Rattle.answer.specs.Outcome.{done, refused, number, outcome}
+use Rattle.answer.specs.Outcome.{done, number, outcome}
 use Rattle.planning.specs.Groups.{marked}
 use Rattle.planning.specs.Policy.{Policy, policyOf}
 use Rattle.planning.specs.Planned.{planned, plannedRows}
 use Rattle.planning.proofs.Laws.{accepted-listed, some-piece}
-use Rattle.print.specs.Written.{Room, Prints}
+use Rattle.print.specs.Written.{Prints}
+use Rattle.print.specs.Inner.{Room}
 use Rattle.print.specs.Lines.{refusedLine}
 use Rattle.print.proofs.WrittenLaws.{printed}
 use Rattle.print.proofs.LineLaws.{refused-few}

@@ -8,7 +8,8 @@ use denote.Ref.{now}
 use lib.ListN.{length}
 use lib.Seq.{length-take-le}
 use Rattle.answer.specs.Outcome.{number}
-use Rattle.print.specs.Written.{Room, Prints}
+use Rattle.print.specs.Written.{Prints}
+use Rattle.print.specs.Inner.{Room}
 use Rattle.print.specs.Lines.{refusedLine}
 use Rattle.print.proofs.WrittenLaws.{printed}
 use Rattle.print.proofs.LineLaws.{refused-few}

@@ -9,7 +9,7 @@ use denote.Ref.{now}
 use lib.ListN.{length}
 use Rattle.lists.specs.Places.{those}
 use Rattle.planning.specs.Groups.{marked}
-use Rattle.print.specs.Written.{Writes}
+use Rattle.print.specs.Inner.{Writes}
 use Rattle.print.specs.Lines.{spacedAll}
 use Rattle.print.proofs.WrittenLaws.{nothing, turn-room, turn-written}
 use Rattle.listing.proofs.ListingLaws.{here, markedPart, marked-grows}

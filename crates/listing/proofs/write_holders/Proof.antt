@@ -8,7 +8,7 @@ use Prim.Native.Nat.{ℕ, _+_, _-_, _≤_}
 use denote.Ref.{now}
 use lib.ListN.{length}
 use Rattle.planning.specs.Groups.{marked}
-use Rattle.print.specs.Written.{Writes}
+use Rattle.print.specs.Inner.{Writes}
 use Rattle.print.proofs.WrittenLaws.{nothing, turn-room, turn-written}
 use Rattle.listing.specs.Listing.{holderLine, rising}
 use Rattle.listing.proofs.ListingLaws.{rising-grows}

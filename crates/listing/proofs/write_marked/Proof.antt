@@ -4,7 +4,7 @@ use mathlib.Core.Bool.{cond}
 use mathlib.Core.List.{List, [], _∷_, append-nil}
 use Prim.Native.Nat.{ℕ}
 use denote.Ref.{now}
-use Rattle.print.specs.Written.{Room}
+use Rattle.print.specs.Inner.{Room}
 use Rattle.print.specs.Lines.{spaced, spacedAll}
 use Rattle.print.proofs.WrittenLaws.{nothing, retold}
 use borrow.Author.Needs.{needs}

@@ -7,7 +7,7 @@ use native.Mathlib.Omega.{arith}
 use Prim.Native.Nat.{ℕ, _-_, _≤_}
 use lib.ListN.{length, getD}
 use Rattle.lists.specs.Places.{those}
-use Rattle.print.specs.Written.{Writes}
+use Rattle.print.specs.Inner.{Writes}
 use Rattle.print.specs.Lines.{spacedAll}
 use Rattle.print.proofs.WrittenLaws.{nothing, turn-room, turn-written}
 use Rattle.listing.proofs.ListingLaws.{here, markedPart, marked-grows}

@@ -4,7 +4,7 @@ use mathlib.Core.Path.{_∙_}
 use borrow.Author.Needs.{needs}
 use Rattle.planning.specs.Policy.{policyOf}
 use Rattle.planning.specs.Groups.{authorised}
-use Rattle.planning.specs.Flags.{flagged}
+use Rattle.planning.specs.Inner.{flagged}
 use Rattle.planning.proofs.GroupLaws.{groups-same}
 use Rattle.planning.proofs.RowLaws.{empty-rows}
 use Rattle.planning.proofs.PlannedLaws.{Clear, lists-refuse, clash-refuse, clear, refused-plan, filled-plan}

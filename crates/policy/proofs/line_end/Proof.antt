@@ -5,7 +5,7 @@ use native.Mathlib.Omega.{arith}
 use Prim.Native.Nat.{_+_, _-_, _≤_}
 use denote.Ref.{now}
 use lib.ListN.{length, drop}
-use Rattle.policy.specs.Policy.{lineLength}
+use Rattle.policy.specs.Inner.{lineLength}
 use Rattle.policy.proofs.LinesLaws.{length-end, length-feed, length-more}
 use Rattle.policy.proofs.line_end.Statement.{statement}
 use Rattle.policy.proofs.line_end.Tie as tie

@@ -6,7 +6,8 @@ use Prim.Native.Nat.{ℕ, _≤_}
 use denote.Ref.{now}
 use lib.ListN.{length, take}
 use lib.Seq.{length-take-le}
-use Rattle.policy.specs.Policy.{lines, lineLength, lineOf, peopleIn}
+use Rattle.policy.specs.Policy.{lines, lineOf, peopleIn}
+use Rattle.policy.specs.Inner.{lineLength}
 use Rattle.policy.proofs.LinesLaws.{behind, behind-most}
 use Rattle.policy.proofs.BadLaws.{too-long, first-line, first-bad}
 use borrow.Author.Needs.{needs}

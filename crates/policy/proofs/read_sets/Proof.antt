@@ -6,7 +6,8 @@ use native.Mathlib.Omega.{arith}
 use Prim.Native.Nat.{ℕ, _-_, _≤_, _<_}
 use denote.Ref.{now}
 use lib.ListN.{length, take, drop}
-use Rattle.policy.specs.Policy.{lineLength, lineSays}
+use Rattle.policy.specs.Policy.{lineSays}
+use Rattle.policy.specs.Inner.{lineLength}
 use Rattle.policy.proofs.LinesLaws.{lineAt, behind, behind-most, behind-more}
 use Rattle.policy.proofs.ReadingLaws.{Going, going-first, going-need, going-bar, going-bad, going-done}
 use Rattle.policy.proofs.read_sets.Statement.{statement}

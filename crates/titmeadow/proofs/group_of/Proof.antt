@@ -2,7 +2,7 @@
 -- Assumes nothing.
 use native.Mathlib.Omega.{arith}
 use borrow.Author.Needs.{needs}
-use Rattle.titmeadow.specs.Said.{numberOf}
+use Rattle.titmeadow.specs.Inner.{numberOf}
 use Rattle.titmeadow.proofs.group_of.Statement.{statement}
 use Rattle.titmeadow.proofs.group_of.Tie as tie
 

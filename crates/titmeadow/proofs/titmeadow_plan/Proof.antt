@@ -13,7 +13,8 @@ use Rattle.planning.specs.Groups.{groups}
 use Rattle.planning.specs.Policy.{Policy, policyOf}
 use Rattle.planning.specs.Planned.{planned}
 use Rattle.planning.proofs.Laws.{some-piece}
-use Rattle.titmeadow.specs.Said.{said, numberOf}
+use Rattle.titmeadow.specs.Said.{said}
+use Rattle.titmeadow.specs.Inner.{numberOf}
 use Rattle.titmeadow.proofs.RowLaws.{rows-numbers, rows-seventy}
 use borrow.Author.Needs.{needs}
 use Rattle.titmeadow.proofs.titmeadow_plan.Statement.{statement}

@@ -6,7 +6,7 @@ use Prim.Native.Nat.{ℕ, _-_, _≤_}
 use native.Mathlib.Omega.{arith}
 use lib.ListN.{length, take, length-set}
 use Rattle.lists.specs.Over.{over}
-use Rattle.titmeadow.specs.Said.{numberOf}
+use Rattle.titmeadow.specs.Inner.{numberOf}
 use Rattle.titmeadow.proofs.RowLaws.{write-on}
 use Rattle.titmeadow.proofs.write_groups.Statement.{statement}
 use Rattle.titmeadow.proofs.write_groups.Tie as tie

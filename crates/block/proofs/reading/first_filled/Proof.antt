@@ -3,7 +3,7 @@ use mathlib.Core.Path.{sym}
 use denote.Ref.{now}
 use borrow.Author.Needs.{needs}
 use Rattle.lists.proofs.FirstLaws.{first-none}
-use Rattle.block.specs.Layout.{filled}
+use Rattle.block.specs.Inner.{filled}
 use Rattle.block.proofs.ZeroLaws.{none-filled}
 use Rattle.block.proofs.reading.first_filled.Statement.{statement}
 use Rattle.block.proofs.reading.first_filled.Tie as tie

@@ -8,7 +8,8 @@ use Prim.Native.Nat.{ℕ, _+_, _-_, _≤_}
 use native.Mathlib.Omega.{arith}
 use Rattle.lists.specs.Places.{firstIn}
 use Rattle.lists.proofs.FirstLaws.{first-hit, first-miss}
-use Rattle.block.specs.Layout.{rightAt, filled, firstWrong}
+use Rattle.block.specs.Layout.{rightAt, firstWrong}
+use Rattle.block.specs.Inner.{filled}
 use Rattle.block.proofs.LayoutLaws.{wrong-rest}
 use Rattle.block.proofs.reading.first_wrong.Statement.{statement}
 use Rattle.block.proofs.reading.first_wrong.Tie as tie

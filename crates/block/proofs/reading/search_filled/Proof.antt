@@ -8,7 +8,7 @@ use borrow.Author.Needs.{needs}
 use borrow.Author.Tests.{eq-eqb, ne-eqb}
 use Rattle.lists.specs.Places.{firstIn}
 use Rattle.block.specs.Words.{wordAt}
-use Rattle.block.specs.Layout.{filled}
+use Rattle.block.specs.Inner.{filled}
 use Rattle.lists.proofs.FirstLaws.{first-hit, first-miss, first-none}
 use Rattle.block.proofs.reading.search_filled.Statement.{statement}
 use Rattle.block.proofs.reading.search_filled.Tie as tie

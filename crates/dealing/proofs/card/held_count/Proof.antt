@@ -5,7 +5,7 @@ use mathlib.Core.Path.{_≡_, ap, _∙_}
 use mathlib.Core.Logic.{⊎-elim}
 use native.Mathlib.Omega.{arith}
 use lib.ListN.{length}
-use Rattle.dealing.specs.Rows.{heldIn}
+use Rattle.dealing.specs.Inner.{heldIn}
 use Rattle.dealing.proofs.CardLaws.{held-start, held-skip, held-take}
 use Rattle.dealing.proofs.card.held_count.Statement.{statement}
 use Rattle.dealing.proofs.card.held_count.Tie as tie

@@ -9,7 +9,7 @@ use borrow.Author.Needs.{needs}
 use Rattle.answer.specs.Outcome.{done}
 use Rattle.answer.proofs.LentLaws.{room-refused, room-given, refusal-keeps}
 use Rattle.dealing.specs.Deal.{blockFor}
-use Rattle.dealing.specs.Rows.{heldIn}
+use Rattle.dealing.specs.Inner.{heldIn}
 use Rattle.dealing.proofs.CardLaws.{held-few, block-size, Laid, laid-start, laid-skip, laid-take, laid-end, room-left}
 use Rattle.dealing.proofs.card.write_card.Statement.{statement}
 use Rattle.dealing.proofs.card.write_card.Tie as tie

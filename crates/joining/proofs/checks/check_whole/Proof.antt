@@ -12,7 +12,7 @@ use Rattle.lists.proofs.FirstLaws.{found-some, found-none}
 use Rattle.block.specs.declared.deal.DealWords.{DealWords}
 use Rattle.joining.specs.Pile.{ownPieces, present}
 use Rattle.joining.specs.Checks.{conflict, short, wholeLines}
-use Rattle.joining.specs.True.{Unmixed}
+use Rattle.joining.specs.Inner.{Unmixed}
 use Rattle.joining.proofs.PileLaws.{unmixed, pieces-in}
 use Rattle.joining.proofs.ShortLaws.{present-is, short-given, short-passes}
 use Rattle.joining.proofs.checks.check_whole.Statement.{statement}

@@ -7,7 +7,7 @@ use Prim.Native.Nat.{ℕ, _-_, _≤_}
 use lib.ListN.{length}
 use Rattle.lists.specs.Places.{those}
 use Rattle.lists.proofs.ThoseLaws.{those-few}
-use Rattle.joining.specs.True.{placed}
+use Rattle.joining.specs.Inner.{placed}
 use Rattle.joining.proofs.ShortLaws.{turn-found, turn-missing}
 use Rattle.joining.proofs.checks.count_present.Statement.{statement}
 use Rattle.joining.proofs.checks.count_present.Tie as tie

@@ -8,7 +8,7 @@ use lib.ListN.{set}
 use borrow.Author.Needs.{needs}
 use Rattle.answer.specs.Outcome.{outcome}
 use Rattle.planning.specs.Groups.{maximalBy, groupsBy}
-use Rattle.planning.specs.Flags.{flagged}
+use Rattle.planning.specs.Inner.{flagged}
 use Rattle.planning.proofs.GroupLaws.{size-le}
 use Rattle.planning.proofs.RowLaws.{empty-rows, Filling, filling-start, filling-miss, filling-hit, filling-as, filling-over, filling-end}
 use Rattle.planning.proofs.PlannedLaws.{filled-over, filled-fits}

@@ -1,10 +1,10 @@
 -- `planning::groups::flags` meets its contract: the flags below g are right. Assumes nothing.
-use mathlib.Core.Path.{_≡_, refl}
+use mathlib.Core.Path.{_≡_}
 use Prim.Native.Nat.{_-_, _^_, _≤_}
 use native.Mathlib.Omega.{arith}
 use borrow.Author.Needs.{needs}
 use Rattle.planning.specs.Groups.{authorised}
-use Rattle.planning.specs.Flags.{Flags}
+use Rattle.planning.specs.Inner.{Flags}
 use Rattle.planning.proofs.GroupLaws.{size-le, flags-none, flags-more}
 use Rattle.planning.proofs.groups.flags.Statement.{statement}
 use Rattle.planning.proofs.groups.flags.Tie as tie

@@ -7,7 +7,7 @@ use native.Mathlib.Omega.{arith}
 use lib.Pow.{pow-pos}
 use borrow.Author.Needs.{needs}
 use borrow.Author.Tests.{not-true, not-false}
-use Rattle.planning.specs.Flags.{flagged}
+use Rattle.planning.specs.Inner.{flagged}
 use Rattle.planning.proofs.GroupLaws.{Walked, walk-start, walk-in, walk-adds, walk-fails, walk-end, authorised-not-maximal, group-lt, more-group-lt, worth-le}
 use Rattle.planning.proofs.groups.maximal.Statement.{statement}
 use Rattle.planning.proofs.groups.maximal.Tie as tie

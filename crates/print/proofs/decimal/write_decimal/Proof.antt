@@ -6,7 +6,7 @@ use native.Mathlib.Omega.{arith}
 use Prim.Native.Nat.{_≤_}
 use lib.ListN.{length, length-set}
 use Rattle.print.specs.Decimal.{decimal}
-use Rattle.print.specs.Written.{written}
+use Rattle.print.specs.Inner.{written}
 use Rattle.print.proofs.DecimalLaws.{lastDigits, spelled-first, spelled-turn, spelled-done}
 use Rattle.print.proofs.decimal.write_decimal.Statement.{statement}
 use Rattle.print.proofs.decimal.write_decimal.Tie as tie

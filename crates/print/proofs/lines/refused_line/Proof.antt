@@ -5,7 +5,7 @@ use denote.Ref.{now}
 use mathlib.Core.Path.{_≡_}
 use lib.ListN.{length}
 use Rattle.answer.specs.Outcome.{number}
-use Rattle.print.specs.Written.{Room}
+use Rattle.print.specs.Inner.{Room}
 use Rattle.print.specs.Lines.{refusedLine}
 use Rattle.print.proofs.WrittenLaws.{printed}
 use Rattle.print.proofs.LineLaws.{refused-few}

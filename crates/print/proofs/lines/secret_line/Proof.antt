@@ -5,7 +5,7 @@ use native.Mathlib.Omega.{arith}
 use denote.Ref.{now}
 use lib.ListN.{length, take}
 use lib.Seq.{take-all, length-take-le, getD-take}
-use Rattle.print.specs.Written.{Room}
+use Rattle.print.specs.Inner.{Room}
 use Rattle.print.specs.Lines.{secretLine}
 use Rattle.print.proofs.WrittenLaws.{printed}
 use Rattle.print.proofs.LineLaws.{secret-few}

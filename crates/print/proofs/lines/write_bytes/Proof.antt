@@ -6,7 +6,7 @@ use Prim.Native.Nat.{_-_, _≤_}
 use denote.Ref.{now}
 use lib.ListN.{length, take, length-set}
 use lib.Seq.{take-all}
-use Rattle.print.specs.Written.{written}
+use Rattle.print.specs.Inner.{written}
 use Rattle.print.proofs.WrittenLaws.{written-none, copied}
 use Rattle.print.proofs.lines.write_bytes.Statement.{statement}
 use Rattle.print.proofs.lines.write_bytes.Tie as tie

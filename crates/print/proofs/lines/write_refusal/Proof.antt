@@ -6,7 +6,7 @@ use mathlib.Core.List.{List, _++_}
 use Prim.Native.Nat.{ℕ}
 use denote.Ref.{now}
 use Rattle.answer.specs.Outcome.{number}
-use Rattle.print.specs.Written.{Room, Writes}
+use Rattle.print.specs.Inner.{Room, Writes}
 use Rattle.print.specs.Lines.{spaced, feed, refusedWord, refusedLine}
 use Rattle.print.proofs.WrittenLaws.{_then_, room-first, room-next, retold}
 use Rattle.print.proofs.lines.write_refusal.Statement.{statement}

@@ -6,7 +6,7 @@ use Prim.Native.Nat.{_-_, _≤_}
 use denote.Ref.{now}
 use lib.ListN.{length, take}
 use lib.Seq.{take-all}
-use Rattle.print.specs.Written.{Writes}
+use Rattle.print.specs.Inner.{Writes}
 use Rattle.print.specs.Lines.{spacedAll}
 use Rattle.print.proofs.WrittenLaws.{nothing, retold}
 use Rattle.print.proofs.LineLaws.{words-room, words-turn}
