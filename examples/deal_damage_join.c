@@ -18,7 +18,7 @@ static size_t cards(size_t first, size_t second, uint8_t *pile, size_t room) {
         titmeadow_answer dealt = titmeadow_deal(4, required, 3, forbidden, 1, 7, holders[i], secret, 1, randomness, 2, pile + length, room - length);
         if (dealt.number != 0)
             return 0;
-        length += 512 * dealt.a;
+        length += TITMEADOW_BLOCK_BYTES * dealt.a;
     }
     return length;
 }
@@ -29,21 +29,21 @@ static int is(const char *what, titmeadow_answer answer, size_t number, size_t a
 }
 
 int main(void) {
-    static uint8_t pile[4 * 512];
-    uint16_t groups[70], head[7] = {0}, joined[16] = {0};
+    static uint8_t pile[4 * TITMEADOW_BLOCK_BYTES];
+    uint16_t groups[TITMEADOW_PIECES_MOST], head[TITMEADOW_HEAD_WORDS] = {0}, joined[TITMEADOW_SECRET_MOST] = {0};
     int good = is("plan", titmeadow_plan(4, required, 3, forbidden, 1, groups), 0, 3, 0);
 
     size_t length = cards(1, 2, pile, sizeof pile);
-    good &= is("holders 1 and 2", titmeadow_join(pile, length, joined, 16), 0, 1, 0) && joined[0] == 1234;
+    good &= is("holders 1 and 2", titmeadow_join(pile, length, joined, TITMEADOW_SECRET_MOST), 0, 1, 0) && joined[0] == 1234;
 
     good &= is("block 1", titmeadow_open(pile, length, head), 0, 7, 0) && head[0] == 1987 && head[2] == 1 && head[6] == 3;
-    good &= is("511 bytes of it", titmeadow_open(pile, 511, head), TITMEADOW_TORN, 0, 0) && head[6] == 3;
+    good &= is("511 bytes of it", titmeadow_open(pile, TITMEADOW_BLOCK_BYTES - 1, head), TITMEADOW_TORN, 0, 0) && head[6] == 3;
 
     length = cards(1, 4, pile, sizeof pile);
-    good &= is("holders 1 and 4", titmeadow_join(pile, length, joined, 16), TITMEADOW_SHORT, 2, 3);
+    good &= is("holders 1 and 4", titmeadow_join(pile, length, joined, TITMEADOW_SECRET_MOST), TITMEADOW_SHORT, 2, 3);
 
     length = cards(1, 2, pile, sizeof pile);
-    memcpy(pile + 512 + 14, "\x7f\xff", 2); /* the reader could not read the first value of block 2 */
-    good &= is("a dirty slot", titmeadow_join(pile, length, joined, 16), TITMEADOW_UNREAD, 2, 0) && joined[0] == 1234;
+    memcpy(pile + TITMEADOW_BLOCK_BYTES + 14, "\x7f\xff", 2); /* the reader could not read the first value of block 2 */
+    good &= is("a dirty slot", titmeadow_join(pile, length, joined, TITMEADOW_SECRET_MOST), TITMEADOW_UNREAD, 2, 0) && joined[0] == 1234;
     return good ? 0 : 1;
 }

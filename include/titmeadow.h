@@ -3,13 +3,37 @@
  * Whatever a call is given, it ends in its result or in a refusal, which has a number and the places a and b. A place is counted from
  * 1, and 0 where none is named. After a refusal, all that was lent is as before; a result writes only what is said here.
  * There is no heap, no state and no input that traps. A pointer is valid for as many elements as the count beside it says, and
- * what is lent to be written overlaps nothing else that is lent.
+ * what is lent to be written overlaps nothing else that is lent. Where the count is 0, the pointer may be NULL. groups and head have
+ * their size in the declaration and no count: they are never NULL.
+ *
+ * The archive is for x86-64. Its size, and the stack that each call takes on that target: docs/BENCHMARKS.md.
+ * Symbols that it needs: memcpy, memset.
  */
 #ifndef TITMEADOW_H
 #define TITMEADOW_H
 
 #include <stddef.h>
 #include <stdint.h>
+
+/* The limits: more is refused, so buffers of these sizes are enough for every call. */
+#define TITMEADOW_PEOPLE_MOST 8   /* people of a policy */
+#define TITMEADOW_SETS_MOST 256   /* sets in a list */
+#define TITMEADOW_PIECES_MOST 70  /* k */
+#define TITMEADOW_WORD_MOST 32748 /* a word of a secret, of the randomness or of a block, and a deal number */
+#define TITMEADOW_SECRET_MOST 16  /* w, the words of a secret */
+#define TITMEADOW_RANDOM_MOST (TITMEADOW_SECRET_MOST * (TITMEADOW_PIECES_MOST - 1)) /* w(k - 1) */
+#define TITMEADOW_BLOCK_BYTES 512
+#define TITMEADOW_BLOCK_WORDS 256 /* two bytes each, the high one in front */
+#define TITMEADOW_HEAD_WORDS 7    /* mark, deal number, holder, people, k, w, piece */
+#define TITMEADOW_CARD_MOST 35    /* blocks on a card; titmeadow_deal says why */
+#define TITMEADOW_PILE_MOST 560   /* blocks in a pile */
+
+/* The size of an array parameter: C compilers can warn of an argument that is smaller, or NULL. In C++ it is a pointer. */
+#ifdef __cplusplus
+#define TITMEADOW_PLACES(count) count
+#else
+#define TITMEADOW_PLACES(count) static count
+#endif
 
 #ifdef __cplusplus
 extern "C" {
@@ -28,7 +52,7 @@ enum titmeadow_refusal {
     TITMEADOW_NOBODY = 4,    /* no set is required */
     TITMEADOW_OPEN = 5,      /* the empty set is required; a: its first place */
     TITMEADOW_CLASH = 6,     /* a required set lies inside a forbidden one; a: the first such set, b: the first forbidden set around it */
-    TITMEADOW_WIDE = 7,      /* there are over 70 maximal groups */
+    TITMEADOW_WIDE = 7,      /* there are over 70 maximal groups, which 8 people never have */
     TITMEADOW_DEAL = 8,      /* the deal number is 0 or exceeds 32748 */
     TITMEADOW_HOLDER = 9,    /* the holder is 0 or exceeds the number of people */
     TITMEADOW_SECRET = 10,   /* no words, or more than 16 (a = 0); else some word exceeds 32748; a: the first such word */
@@ -49,12 +73,15 @@ enum titmeadow_refusal {
  * groups has 70 places: the group of piece j, those who lack it, goes to groups[j - 1]; the first k are written.
  * Refuses 1 to 7. */
 titmeadow_answer titmeadow_plan(size_t people, const uint16_t *required, size_t required_count, const uint16_t *forbidden,
-                                size_t forbidden_count, uint16_t *groups);
+                                size_t forbidden_count, uint16_t groups[TITMEADOW_PLACES(TITMEADOW_PIECES_MOST)]);
 
 /* Dealing one holder's card: the result is its number of blocks, of 512 bytes each, which are written to the front of card; a
  * holder of no piece has a card without a block. The secret has w = words words, 1 to 16, and random has w(k - 1) words, not one more
  * or less, even and never used again; each of both is 0 to 32748. Every card of a deal is made from the same policy, deal number,
- * secret and random. Refuses 1 to 12. */
+ * secret and random. room counts bytes. Refuses 1 to 12.
+ * A card has at most 35 blocks: the groups of its pieces are of the other seven people, none inside another, and by Sperner's theorem
+ * there are no more such. That is not proved here; proved is that k is at most 70, so that 70 blocks are room for every card. A card
+ * that does not fit is refused. */
 titmeadow_answer titmeadow_deal(size_t people, const uint16_t *required, size_t required_count, const uint16_t *forbidden,
                                 size_t forbidden_count, size_t deal, size_t holder, const uint16_t *secret, size_t words,
                                 const uint16_t *random, size_t random_count, uint8_t *card, size_t room);
@@ -65,7 +92,7 @@ titmeadow_answer titmeadow_join(const uint8_t *pile, size_t length, uint16_t *se
 
 /* Opening the first block of a pile: the result is 7, and its words 1 to 7 are written to the seven places of head.
  * Refuses 13 (fewer than 512 bytes; a = 0, since there is no block); 15, 16, 17, each with a = 1. */
-titmeadow_answer titmeadow_open(const uint8_t *pile, size_t length, uint16_t *head);
+titmeadow_answer titmeadow_open(const uint8_t *pile, size_t length, uint16_t head[TITMEADOW_PLACES(TITMEADOW_HEAD_WORDS)]);
 
 #ifdef __cplusplus
 }
