@@ -1,0 +1,14 @@
+// The header in C++: included twice, it declares the calls under the names that they have in C, and its constants size arrays.
+#include "titmeadow.h"
+#include "titmeadow.h"
+
+int main() {
+    uint16_t groups[TITMEADOW_PIECES_MOST], head[TITMEADOW_HEAD_WORDS], secret[TITMEADOW_SECRET_MOST];
+    static uint8_t card[TITMEADOW_CARD_MOST * TITMEADOW_BLOCK_BYTES];
+    const uint16_t required[] = {1 + 2, 2 + 4, 4 + 8}, word[] = {1234}, randomness[] = {5, 7};
+    bool good = titmeadow_plan(4, required, 3, nullptr, 0, groups).a == 3;
+    good &= titmeadow_deal(4, required, 3, nullptr, 0, 7, 4, word, 1, randomness, 2, card, sizeof card).a == 1;
+    good &= titmeadow_open(card, TITMEADOW_BLOCK_BYTES, head).a == TITMEADOW_HEAD_WORDS;
+    good &= titmeadow_join(card, TITMEADOW_BLOCK_BYTES, secret, TITMEADOW_SECRET_MOST).number == TITMEADOW_SHORT;
+    return good ? 0 : 1;
+}

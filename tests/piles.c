@@ -1,0 +1,162 @@
+/* Joining and opening: every refusal of theirs, results, and the limits from both sides. */
+#include "calls.h"
+
+/* The joiners: every case of joining is run over each. */
+static const struct {
+    enum call call;
+    titmeadow_answer (*join)(const uint8_t *pile, size_t length, uint16_t *secret, size_t room);
+} joiners[] = {{JOIN, titmeadow_join}};
+
+/* A pile, and how it was before the call. */
+static uint8_t pile[TITMEADOW_PILE_MOST + 2][BLOCK], kept[sizeof pile];
+
+/* The first `length` bytes of the pile, NULL where there are none, joined by each joiner into `room` words, NULL alike. */
+static void joined(const char *what, size_t length, size_t room, titmeadow_answer want, const uint16_t *secret) {
+    for (size_t i = 0; i < COUNT(joiners); i++) {
+        uint16_t *out = lend();
+        memcpy(kept, pile, sizeof pile);
+        titmeadow_answer got = joiners[i].join(length == 0 ? NULL : pile[0], length, room == 0 ? NULL : out, room);
+        is(joiners[i].call, what, got, want, secret, want.number == 0 ? 2 * want.a : 0);
+        if (memcmp(kept, pile, sizeof pile) != 0)
+            fault(joiners[i].call, what, "the pile is not as before");
+    }
+}
+
+/* The pile is these blocks. */
+static void lay(size_t count, uint8_t *const *blocks) {
+    for (size_t i = 0; i < count; i++)
+        memcpy(pile[i], blocks[i], BLOCK);
+}
+#define LAY(...) lay(COUNT(((uint8_t *[]){__VA_ARGS__})), (uint8_t *[]){__VA_ARGS__})
+#define JOINED(what, room, number, a, b, ...) \
+    (LAY(__VA_ARGS__), joined(what, BLOCK * COUNT(((uint8_t *[]){__VA_ARGS__})), room, refused(number, a, b), NULL))
+
+/* A block with one word changed, and then its check made anew or left. */
+enum check { LEFT, ANEW };
+static uint8_t *changed(uint8_t *into, const uint8_t *block, size_t i, size_t value, enum check check) {
+    memcpy(into, block, BLOCK);
+    put(into, i, value);
+    if (check == ANEW)
+        put_check(into);
+    return into;
+}
+
+/* The second of the three blocks with one word changed: holder 2 of 4, piece 2 of 3, one value. */
+static const struct {
+    const char *what;
+    size_t i, value;
+    enum check check;
+    size_t number, b;
+} bad_blocks[] = {
+    {"a slot of 32749", 8, TITMEADOW_WORD_MOST + 1, ANEW, TITMEADOW_UNREAD, 0},
+    {"a slot of 65535 in the mark", 1, 65535, LEFT, TITMEADOW_UNREAD, 0},
+    {"a slot of 32767 in the check", 256, 32767, LEFT, TITMEADOW_UNREAD, 0},
+    {"another check", 256, 12235, LEFT, TITMEADOW_CHECK, 0},
+    {"another value", 8, 1273, LEFT, TITMEADOW_CHECK, 0},
+    {"another mark", 1, 1988, LEFT, TITMEADOW_CHECK, 0},
+    {"mark 1988", 1, 1988, ANEW, TITMEADOW_HEADER, 1},
+    {"deal 0", 2, 0, ANEW, TITMEADOW_HEADER, 2},
+    {"holder 0", 3, 0, ANEW, TITMEADOW_HEADER, 3},
+    {"holder 9", 3, 9, ANEW, TITMEADOW_HEADER, 3},
+    {"holder 5 of 4", 3, 5, ANEW, TITMEADOW_HEADER, 4},
+    {"nine people", 4, TITMEADOW_PEOPLE_MOST + 1, ANEW, TITMEADOW_HEADER, 4},
+    {"holder 2 of 1", 4, 1, ANEW, TITMEADOW_HEADER, 4},
+    {"no pieces", 5, 0, ANEW, TITMEADOW_HEADER, 5},
+    {"71 pieces", 5, TITMEADOW_PIECES_MOST + 1, ANEW, TITMEADOW_HEADER, 5},
+    {"piece 2 of 1", 5, 1, ANEW, TITMEADOW_HEADER, 7},
+    {"no words", 6, 0, ANEW, TITMEADOW_HEADER, 6},
+    {"17 words", 6, TITMEADOW_SECRET_MOST + 1, ANEW, TITMEADOW_HEADER, 6},
+    {"piece 0", 7, 0, ANEW, TITMEADOW_HEADER, 7},
+    {"piece 4 of 3", 7, 4, ANEW, TITMEADOW_HEADER, 7},
+    {"a word behind the value", 9, 1, ANEW, TITMEADOW_HEADER, 9},
+    {"a word before the check", 255, 1, ANEW, TITMEADOW_HEADER, 255},
+};
+
+static void opened(const char *what, size_t length, titmeadow_answer want, const uint16_t *head) {
+    uint16_t *out = lend();
+    memcpy(kept, pile, sizeof pile);
+    is(OPEN, what, titmeadow_open(length == 0 ? NULL : pile[0], length, out), want, head, want.number == 0 ? 2 * want.a : 0);
+    if (memcmp(kept, pile, sizeof pile) != 0)
+        fault(OPEN, what, "the pile is not as before");
+}
+
+/* Each bad block, second and first in a pile, before one that is worse; and opened, with more behind it. */
+static void blocks(void) {
+    uint8_t bad[BLOCK], unread[BLOCK];
+    memset(unread, 0xff, BLOCK);
+    for (size_t i = 0; i < COUNT(bad_blocks); i++) {
+        changed(bad, three[1], bad_blocks[i].i, bad_blocks[i].value, bad_blocks[i].check);
+        JOINED(bad_blocks[i].what, 16, bad_blocks[i].number, 2, bad_blocks[i].b, three[0], bad, unread);
+        JOINED(bad_blocks[i].what, 16, bad_blocks[i].number, 1, bad_blocks[i].b, bad, unread, three[2]);
+        opened(bad_blocks[i].what, BLOCK + 1, refused(bad_blocks[i].number, 1, bad_blocks[i].b), NULL);
+    }
+    const titmeadow_answer torn = refused(TITMEADOW_TORN, 0, 0);
+    opened("no bytes", 0, torn, NULL);
+    opened("a byte too few", BLOCK - 1, torn, NULL);
+    LAY(three[1], unread);
+    const uint16_t head[TITMEADOW_HEAD_WORDS] = {1987, 7, 2, 4, 3, 1, 2};
+    opened("one block", BLOCK, done(TITMEADOW_HEAD_WORDS), head);
+    opened("a block, and a byte behind it", BLOCK + 1, done(TITMEADOW_HEAD_WORDS), head);
+    changed(bad, three[1], 8, TITMEADOW_WORD_MOST, ANEW);
+    LAY(bad);
+    opened("a slot of 32748", BLOCK, done(TITMEADOW_HEAD_WORDS), head);
+}
+
+static void joining(void) {
+    uint8_t *const one = three[0], *const two = three[1], *const last = three[2];
+    uint8_t other[BLOCK], second[BLOCK], wide[2][BLOCK];
+    const titmeadow_answer torn = refused(TITMEADOW_TORN, 0, 0), too_long = refused(TITMEADOW_LONG, 0, 0);
+
+    memset(pile, 0xff, sizeof pile);
+    joined("a byte", 1, 16, torn, NULL);
+    joined("a byte too few", BLOCK - 1, 16, torn, NULL);
+    joined("an unread block, and a byte", BLOCK + 1, 16, torn, NULL);
+    joined("561 blocks, and a byte", (TITMEADOW_PILE_MOST + 1) * BLOCK + 1, 16, torn, NULL);
+    joined("561 unread blocks", (TITMEADOW_PILE_MOST + 1) * BLOCK, 16, too_long, NULL);
+    for (size_t i = 0; i <= TITMEADOW_PILE_MOST; i++)
+        memcpy(pile[i], three[i % 3], BLOCK);
+    joined("561 blocks", (TITMEADOW_PILE_MOST + 1) * BLOCK, 16, too_long, NULL);
+    joined("560 blocks", TITMEADOW_PILE_MOST * BLOCK, 16, done(1), LISTED(1234));
+
+    JOINED("another deal number, and a conflict", 16, TITMEADOW_MIXED, 4, 0, one, changed(other, one, 8, 1247, ANEW), last,
+           changed(second, two, 2, 8, ANEW));
+    JOINED("other people", 16, TITMEADOW_MIXED, 2, 0, one, changed(other, two, 4, 5, ANEW), last);
+    JOINED("other pieces", 16, TITMEADOW_MIXED, 3, 0, one, last, changed(other, two, 5, 4, ANEW));
+    JOINED("other words", 16, TITMEADOW_MIXED, 3, 0, one, last, changed(other, two, 6, 2, ANEW));
+    JOINED("another value of piece 1", 16, TITMEADOW_CONFLICT, 3, 1, one, two, changed(other, one, 8, 1247, ANEW));
+    JOINED("another value of piece 2, then of piece 1", 16, TITMEADOW_CONFLICT, 4, 2, one, two, two, changed(second, two, 8, 1273, ANEW),
+           changed(other, one, 8, 1247, ANEW));
+    JOINED("P12", 16, TITMEADOW_SHORT, 2, 3, last, one);
+    JOINED("one piece, twice, and no room", 0, TITMEADOW_SHORT, 1, 3, two, two);
+    joined("no blocks", 0, 16, refused(TITMEADOW_SHORT, 0, 0), NULL);
+    joined("no blocks, and no room", 0, 0, refused(TITMEADOW_SHORT, 0, 0), NULL);
+    JOINED("no room", 0, TITMEADOW_ROOM, 1, 0, one, two, last);
+
+    /* P8 from the last to the first, one of them twice; the secret of P9, pieces 0, 1, 2 */
+    LAY(last, two, last, one);
+    joined("P8", 4 * BLOCK, 1, done(1), LISTED(1234));
+    for (size_t j = 1; j <= 3; j++)
+        put_block(pile[j - 1], 7, 3, 4, 3, 1, j, (const uint16_t[]){(uint16_t)(j - 1)});
+    joined("P9", 3 * BLOCK, 2, done(1), LISTED(32748));
+
+    /* Sixteen words of 32748, so -1, with coefficients of 32748: piece 1 is -2, so 32747, and piece 2 is 32746. */
+    for (size_t j = 1; j <= 2; j++) {
+        uint16_t values[TITMEADOW_SECRET_MOST];
+        for (size_t i = 0; i < COUNT(values); i++)
+            values[i] = (uint16_t)(32748 - j);
+        put_block(wide[j - 1], TITMEADOW_WORD_MOST, 3 - j, 2, 2, TITMEADOW_SECRET_MOST, j, values);
+    }
+    JOINED("a word too little room", 15, TITMEADOW_ROOM, TITMEADOW_SECRET_MOST, 0, wide[0], wide[1]);
+    joined("sixteen words", 2 * BLOCK, TITMEADOW_SECRET_MOST, done(TITMEADOW_SECRET_MOST), largest);
+
+    /* Seventy pieces with coefficients of 0: each is the secret. */
+    for (size_t j = 1; j <= TITMEADOW_PIECES_MOST; j++)
+        put_block(pile[j - 1], 9, 8, 8, TITMEADOW_PIECES_MOST, TITMEADOW_SECRET_MOST, j, sixteen);
+    joined("seventy pieces", TITMEADOW_PIECES_MOST * BLOCK, 17, done(TITMEADOW_SECRET_MOST), sixteen);
+    joined("all but the last", (TITMEADOW_PIECES_MOST - 1) * BLOCK, 16, refused(TITMEADOW_SHORT, 69, 70), NULL);
+}
+
+void piles(void) {
+    blocks();
+    joining();
+}
