@@ -8,8 +8,11 @@ use std::path::Path;
 use std::process::{Command, Stdio};
 
 fn run(name: &str, input: &[u8]) -> Vec<u8> {
-    let program = Path::new(env!("CARGO_MANIFEST_DIR")).parent().unwrap().join("target/bin").join(name);
-    let mut running = Command::new(&program)
+    let top = Path::new(env!("CARGO_MANIFEST_DIR")).parent().unwrap();
+    let program = top.join("target/bin").join(name);
+    let mut running = Command::new(top.join("tools/x86-64"))
+        .arg("run")
+        .arg(&program)
         .stdin(Stdio::piped())
         .stdout(Stdio::piped())
         .spawn()

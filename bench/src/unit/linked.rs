@@ -1,0 +1,63 @@
+//! The calls, linked. Nothing checks these declarations against the library: they are the ones of include/titmeadow.h.
+use super::Answer;
+use crate::reference::Deal;
+
+extern "C" {
+    fn titmeadow_plan(
+        people: usize,
+        required: *const u16,
+        required_count: usize,
+        forbidden: *const u16,
+        forbidden_count: usize,
+        groups: *mut u16,
+    ) -> Answer;
+    fn titmeadow_deal(
+        people: usize,
+        required: *const u16,
+        required_count: usize,
+        forbidden: *const u16,
+        forbidden_count: usize,
+        deal: usize,
+        holder: usize,
+        secret: *const u16,
+        words: usize,
+        random: *const u16,
+        random_count: usize,
+        card: *mut u8,
+        room: usize,
+    ) -> Answer;
+    fn titmeadow_join(pile: *const u8, length: usize, secret: *mut u16, room: usize) -> Answer;
+    fn titmeadow_open(pile: *const u8, length: usize, head: *mut u16) -> Answer;
+}
+
+pub fn plan(people: usize, required: &[u16], forbidden: &[u16], groups: &mut [u16; 70]) -> Answer {
+    unsafe { titmeadow_plan(people, required.as_ptr(), required.len(), forbidden.as_ptr(), forbidden.len(), groups.as_mut_ptr()) }
+}
+
+pub fn deal(d: &Deal, holder: usize, out: &mut [u8]) -> Answer {
+    unsafe {
+        titmeadow_deal(
+            d.people,
+            d.required.as_ptr(),
+            d.required.len(),
+            d.forbidden.as_ptr(),
+            d.forbidden.len(),
+            d.number,
+            holder,
+            d.secret.as_ptr(),
+            d.secret.len(),
+            d.random.as_ptr(),
+            d.random.len(),
+            out.as_mut_ptr(),
+            out.len(),
+        )
+    }
+}
+
+pub fn join(pile: &[u8], out: &mut [u16]) -> Answer {
+    unsafe { titmeadow_join(pile.as_ptr(), pile.len(), out.as_mut_ptr(), out.len()) }
+}
+
+pub fn open(pile: &[u8], head: &mut [u16; 7]) -> Answer {
+    unsafe { titmeadow_open(pile.as_ptr(), pile.len(), head.as_mut_ptr()) }
+}

@@ -1,0 +1,88 @@
+//! The calls, asked through a pipe: bench/served.c says how. build.rs compiles it; each thread has a process of its own.
+use super::Answer;
+use crate::reference::Deal;
+use std::cell::RefCell;
+use std::io::{BufWriter, Read, Write};
+use std::process::{Child, ChildStdin, ChildStdout, Command, Stdio};
+
+struct Served {
+    child: Child,
+    asks: Option<BufWriter<ChildStdin>>,
+    says: ChildStdout,
+}
+
+impl Served {
+    fn start() -> Served {
+        let mut child = Command::new(concat!(env!("CARGO_MANIFEST_DIR"), "/../tools/x86-64"))
+            .args(["run", env!("SERVED")])
+            .stdin(Stdio::piped())
+            .stdout(Stdio::piped())
+            .spawn()
+            .expect("the library behind a pipe");
+        let asks = Some(BufWriter::new(child.stdin.take().unwrap()));
+        let says = child.stdout.take().unwrap();
+        Served { child, asks, says }
+    }
+
+    fn ask(&mut self, call: u64, numbers: [usize; 3], lists: [&[u8]; 4], out: &mut [u8]) -> Answer {
+        let asks = self.asks.as_mut().unwrap();
+        let mut number = |n: u64| asks.write_all(&n.to_le_bytes()).unwrap();
+        number(call);
+        numbers.iter().for_each(|n| number(*n as u64));
+        for list in lists.into_iter().chain([&out[..]]) {
+            asks.write_all(&(list.len() as u64).to_le_bytes()).unwrap();
+            asks.write_all(list).unwrap();
+        }
+        asks.flush().unwrap();
+        let mut said = [0; 24];
+        self.says.read_exact(&mut said).expect("an answer of the library");
+        self.says.read_exact(out).expect("what was lent to the library");
+        let number = |i: usize| u64::from_le_bytes(said[8 * i..8 * i + 8].try_into().unwrap()) as usize;
+        Answer { number: number(0), a: number(1), b: number(2) }
+    }
+}
+
+impl Drop for Served {
+    fn drop(&mut self) {
+        self.asks = None;
+        self.child.wait().ok();
+    }
+}
+
+thread_local! {
+    static SERVED: RefCell<Served> = RefCell::new(Served::start());
+}
+
+fn ask(call: u64, numbers: [usize; 3], lists: [&[u8]; 4], out: &mut [u8]) -> Answer {
+    SERVED.with(|served| served.borrow_mut().ask(call, numbers, lists, out))
+}
+
+fn bytes(words: &[u16]) -> Vec<u8> {
+    words.iter().flat_map(|word| word.to_le_bytes()).collect()
+}
+
+fn ask_words(call: u64, numbers: [usize; 3], lists: [&[u8]; 4], out: &mut [u16]) -> Answer {
+    let mut lent = bytes(out);
+    let said = ask(call, numbers, lists, &mut lent);
+    for (word, pair) in out.iter_mut().zip(lent.chunks_exact(2)) {
+        *word = u16::from_le_bytes([pair[0], pair[1]]);
+    }
+    said
+}
+
+pub fn plan(people: usize, required: &[u16], forbidden: &[u16], groups: &mut [u16; 70]) -> Answer {
+    ask_words(1, [people, 0, 0], [&bytes(required), &bytes(forbidden), &[], &[]], groups)
+}
+
+pub fn deal(d: &Deal, holder: usize, out: &mut [u8]) -> Answer {
+    let lists = [&d.required, &d.forbidden, &d.secret, &d.random].map(|words| bytes(words));
+    ask(2, [d.people, d.number, holder], [&lists[0], &lists[1], &lists[2], &lists[3]], out)
+}
+
+pub fn join(pile: &[u8], out: &mut [u16]) -> Answer {
+    ask_words(3, [0; 3], [pile, &[], &[], &[]], out)
+}
+
+pub fn open(pile: &[u8], head: &mut [u16; 7]) -> Answer {
+    ask_words(4, [0; 3], [pile, &[], &[], &[]], head)
+}
