@@ -44,6 +44,6 @@ int main(void) {
 
     length = cards(1, 2, pile, sizeof pile);
     memcpy(pile + TITMEADOW_BLOCK_BYTES + 14, "\x7f\xff", 2); /* the reader could not read the first value of block 2 */
-    good &= is("a dirty slot", titmeadow_join(pile, length, joined, TITMEADOW_SECRET_MOST), TITMEADOW_UNREAD, 2, 0) && joined[0] == 1234;
+    good &= is("a dirty slot", titmeadow_join(pile, length, joined, TITMEADOW_SECRET_MOST), TITMEADOW_UNREAD, 2, 8) && joined[0] == 1234;
     return good ? 0 : 1;
 }

@@ -60,7 +60,7 @@ enum titmeadow_refusal {
     TITMEADOW_ROOM = 12,     /* the result does not fit in the lent buffer; a: how many blocks or words it has */
     TITMEADOW_TORN = 13,     /* bytes are left over after the whole blocks */
     TITMEADOW_LONG = 14,     /* there are more than 560 blocks */
-    TITMEADOW_UNREAD = 15,   /* some word of a block exceeds 32748; a: the block */
+    TITMEADOW_UNREAD = 15,   /* some word of a block exceeds 32748; a: the block, b: the first such word */
     TITMEADOW_CHECK = 16,    /* word 256 of a block is not its check; a: the block */
     TITMEADOW_HEADER = 17,   /* some word from 1 to 255 of a block is not as the layout has it; a: the block, b: the first such word */
     TITMEADOW_MIXED = 18,    /* a block is unlike block 1 in word 2, 4, 5 or 6; a: the first such block */

@@ -48,9 +48,9 @@ static const struct {
     enum check check;
     size_t number, b;
 } bad_blocks[] = {
-    {"a slot of 32749", 8, TITMEADOW_WORD_MOST + 1, ANEW, TITMEADOW_UNREAD, 0},
-    {"a slot of 65535 in the mark", 1, 65535, LEFT, TITMEADOW_UNREAD, 0},
-    {"a slot of 32767 in the check", 256, 32767, LEFT, TITMEADOW_UNREAD, 0},
+    {"a slot of 32749", 8, TITMEADOW_WORD_MOST + 1, ANEW, TITMEADOW_UNREAD, 8},
+    {"a slot of 65535 in the mark", 1, 65535, LEFT, TITMEADOW_UNREAD, 1},
+    {"a slot of 32767 in the check", 256, 32767, LEFT, TITMEADOW_UNREAD, 256},
     {"another check", 256, 12235, LEFT, TITMEADOW_CHECK, 0},
     {"another value", 8, 1273, LEFT, TITMEADOW_CHECK, 0},
     {"another mark", 1, 1988, LEFT, TITMEADOW_CHECK, 0},

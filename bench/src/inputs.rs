@@ -81,7 +81,7 @@ pub fn with_word(block: &mut [u8], i: usize, value: u16, right: bool) {
     block.copy_from_slice(&bytes_of(&words));
 }
 
-/// One fault in a pile: a dirty slot, a changed word with or without a right check, two wrong words of one header, another deal's block,
+/// One fault in a pile: one to three dirty slots of a block, a changed word with or without a right check, two wrong words of one header, another deal's block,
 /// a block whose values conflict, a torn end. The edges of a range come often.
 pub fn damage(n: &mut Numbers, d: &Deal, pile: &mut Vec<Vec<u8>>) {
     if pile.last().is_none_or(|block| block.len() < BLOCK) {
@@ -91,7 +91,10 @@ pub fn damage(n: &mut Numbers, d: &Deal, pile: &mut Vec<Vec<u8>>) {
     match n.below(9) {
         0 => {
             let slot = if n.once_in(8) { 32749 } else { 32749 + n.below(32787) as u16 };
-            with_word(&mut pile[at], 1 + n.below(256), slot, false);
+            for _ in 0..1 + n.below(3) {
+                let word = if n.once_in(8) { 256 } else { 1 + n.below(256) };
+                with_word(&mut pile[at], word, slot, false);
+            }
         }
         1 => with_word(&mut pile[at], 1 + n.below(256), n.next() as u16, false),
         2 => with_word(&mut pile[at], 1 + n.below(7), n.below(80) as u16, true),

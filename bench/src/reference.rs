@@ -178,8 +178,8 @@ fn wrong(words: &[u16; 256]) -> Option<usize> {
 
 /// Refusals 15, 16 and 17 of block a.
 fn check_block(words: &[u16; 256], a: usize) -> Result<(), Refusal> {
-    if words.iter().any(|word| *word > 32748) {
-        return refuse(15, a, 0);
+    if let Some(dirty) = (1..=256).find(|i| words[i - 1] > 32748) {
+        return refuse(15, a, dirty);
     }
     if check(words) != words[255] {
         return refuse(16, a, 0);

@@ -60,8 +60,28 @@ fn slots_of_32748_32749_and_32767() {
         pile
     };
     assert_eq!(unit::join(&pile(32748), &mut [0]), Ok(1));
-    assert_eq!(unit::join(&pile(32749), &mut [0]), refused(15, 2, 0));
-    assert_eq!(unit::join(&pile(32767), &mut [0]), refused(15, 2, 0));
+    assert_eq!(unit::join(&pile(32749), &mut [0]), refused(15, 2, 8));
+    assert_eq!(unit::join(&pile(32767), &mut [0]), refused(15, 2, 8));
+}
+
+#[test]
+fn the_first_dirty_slot_is_named() {
+    let good = blocks(&p7(), 3).concat();
+    let dirty = |slots: &[usize]| {
+        let mut pile = good.clone();
+        for slot in slots {
+            with_word(&mut pile[BLOCK..2 * BLOCK], *slot, 32767, false);
+        }
+        pile
+    };
+    for first in 1..=256 {
+        for slots in [vec![first], vec![first, 256], vec![256, 128.max(first), first]] {
+            let (pile, mut out, mut head) = (dirty(&slots), [9; 1], [9; 7]);
+            assert_eq!(unit::join(&pile, &mut out), refused(15, 2, first));
+            assert_eq!(unit::open(&pile[BLOCK..], &mut head), refused(15, 1, first));
+            assert_eq!((out, head), ([9; 1], [9; 7]));
+        }
+    }
 }
 
 #[test]

@@ -1,5 +1,5 @@
--- A true block with one word changed, or with two unequal words of the first 255 exchanged, is refused: UNREAD where the new word is
--- above 32748, else CHECK, since mod 32749 no factor from 1 to 255 is lost. Assumes nothing.
+-- A true block with one word changed, or with two unequal words of the first 255 exchanged, is refused: UNREAD at that word where it is
+-- above 32748 now, else CHECK, since mod 32749 no factor from 1 to 255 is lost. Assumes nothing.
 use mathlib.Core.Path.{_≡_, refl, sym, ap, _∙_}
 use mathlib.Core.Bool.{Bool, true, false, cond}
 use mathlib.Core.Logic.{_⊎_, inl, inr, ⊎-elim, _≢_}
@@ -11,7 +11,7 @@ use native.Mathlib.Omega.{arith}
 use lib.Arith.{lt-of-le-ne}
 use lib.Dec.{eqb}
 use lib.ListN.{length}
-use borrow.Author.Tests.{eqb-true, eqb-false, eq-eqb, ne-eqb}
+use borrow.Author.Tests.{lt-ltb, le-ltb, eqb-true, eqb-false, eq-eqb, ne-eqb}
 use Rattle.answer.specs.Outcome.{done, refused}
 use Rattle.answer.specs.Checks.{firstFail}
 use Rattle.prime.proofs.Prime.{cancel-small}
@@ -20,7 +20,7 @@ use Rattle.block.specs.Layout.{frontWords}
 use Rattle.block.specs.Open.{header, opening, TrueBlock}
 use Rattle.block.proofs.WordLaws.{length-put, word-put-same, word-put-other}
 use Rattle.block.proofs.SumLaws.{check-same, one-differs}
-use Rattle.block.proofs.OpenLaws.{small-of, of-small, slots-unread, slots-check, opening-block}
+use Rattle.block.proofs.OpenLaws.{of-small, slots-check, opening-block, unread-exactly}
 
 -- equal sums with equal remainders on the left have equal remainders on the right
 add-cancel : (s t x y : ℕ) → s % 32749 ≡ t % 32749 → s + x ≡ t + y → x % 32749 ≡ y % 32749
@@ -33,15 +33,10 @@ same-or-not k i = go (eqb k i) refl
     go true e = inl (eqb-true k i e)
     go false e = inr (eqb-false k i e)
 
--- ---- what opening answers of a block whose check is wrong, and of one with a word above 32748
+-- ---- what opening answers of a block whose check is wrong
 by-check : (b : List ℕ) → 512 ≤ length b → Small b 256 → checkOf b ≢ wordAt b 256 → opening b ≡ refused 16 1 0
 unfolding firstFail
 by-check b l s h = opening-block b l ∙ slots-check b 1 (firstFail (header b 1 ∷ []) (done (frontWords b))) (of-small b s) h
-
-by-unread : (b : List ℕ) (i : ℕ) → 512 ≤ length b → 1 ≤ i → i ≤ 256 → 32748 < wordAt b i → opening b ≡ refused 15 1 0
-unfolding firstFail
-by-unread b i l from to h =
-    opening-block b l ∙ slots-unread b 1 (firstFail (header b 1 ∷ []) (done (frontWords b))) (λ z. omega (arith, small-of b z .small i from to))
 
 -- ---- word i of the true block b is changed, which gives c
 module _ (b c : List ℕ) (i : ℕ) (from : 1 ≤ i) (to : i ≤ 256)
@@ -72,7 +67,7 @@ module _ (b c : List ℕ) (i : ℕ) (from : 1 ≤ i) (to : i ≤ 256)
   changed-check = ⊎-elim in-the-check (λ less. in-the-sum (omega arith)) (eq-or-lt-of-le to)
 
 pub changed : (b : List ℕ) (i v : ℕ) → TrueBlock b → 1 ≤ i → i ≤ 256 → v ≢ wordAt b i
-    → (32748 < v → opening (putAt b i v) ≡ refused 15 1 0) × (v ≤ 32748 → opening (putAt b i v) ≡ refused 16 1 0)
+    → (32748 < v → opening (putAt b i v) ≡ refused 15 1 i) × (v ≤ 32748 → opening (putAt b i v) ≡ refused 16 1 0)
 changed b i v t l h ne =
     let c = putAt b i v in
     let room : 2 * i ≤ length b = omega (arith, t .long) in
@@ -80,7 +75,14 @@ changed b i v t l h ne =
     let new : wordAt c i ≡ v = word-put-same b i v l room in
     let same : (k : ℕ) → 1 ≤ k → k ≤ 256 → k ≢ i → wordAt c k ≡ wordAt b k = λ k m q off. word-put-other b i v l room k m off in
     let other : wordAt c i ≢ wordAt b i = λ e. ne (sym new ∙ e) in (
-      λ high. by-unread c i long l h (omega arith),
+      λ high.
+          unread-exactly c i long .1
+          (record {
+            from = l;
+            to = omega arith;
+            has = lt-ltb 32748 (wordAt c i) (omega arith);
+            least = λ k m q. le-ltb 32748 (wordAt c k) (rw (same k m (omega arith) (λ e. omega arith)) (t .clean .small k m (omega arith)));
+          }),
       λ low.
           let low-c : wordAt c i ≤ 32748 = omega arith in
           by-check c long (changed-small b c i l h same other t low-c) (changed-check b c i l h same other t low-c),

@@ -43,6 +43,9 @@ true-opens = «open».true-opens
 pub opens-true : law.OpensTrue
 opens-true = «open».opens-true
 
+pub unread-exactly : law.UnreadExactly
+unread-exactly = «open».unread-exactly
+
 pub changed : law.Changed
 changed = damage.changed
 

@@ -72,7 +72,7 @@ module _ (b c : List ℕ) (same : (i : ℕ) → 1 ≤ i → i ≤ 256 → wordAt
       let wrong-same : firstWrong b ≡ firstWrong c = first-same _ _ 1 256 (λ k l h. ap not (right-same k l (omega arith))) in
       let last : wordAt b 256 ≡ wordAt c 256 = same 256 (omega arith) (omega arith) in
       λ t.
-      line Unread (found (above-same t)) a 0
+      line Unread (found (above-same t)) a (above-same t)
       ∷ line Check (not (eqb (sum-same t) (last t))) a 0
       ∷ line Header (found (wrong-same t)) a (wrong-same t)
       ∷ []

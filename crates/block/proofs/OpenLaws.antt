@@ -1,8 +1,8 @@
 -- The lines of a block, one after the other, and what opening says: a true block passes them all, and nothing else opens.
 -- Assumes nothing.
-use mathlib.Core.Path.{_≡_, sym, ap, _∙_}
+use mathlib.Core.Path.{_≡_, refl, sym, ap, _∙_}
 use mathlib.Core.Bool.{true, not}
-use mathlib.Core.Logic.{_≢_, ⊎-elim}
+use mathlib.Core.Logic.{_≢_, _↔_, ⊎-elim}
 use mathlib.Core.List.{List, [], _∷_, List·Memᴰ, List·Memᴰ·cases-cons, List·Memᴰ·not-nil}
 use Prim.Native.Nat.{ℕ, _≤_, _<_}
 use native.Mathlib.Omega.{arith}
@@ -15,9 +15,12 @@ use Rattle.answer.specs.declared.Answer.the-variants.{Done, Refused as Answer-R
 use Rattle.answer.specs.Outcome.{Outcome, done, refused, number, outcome}
 use Rattle.answer.specs.Checks.{Line, firstFail}
 use Rattle.lists.specs.Places.{found}
+use Rattle.lists.specs.Some.{some}
+use Rattle.lists.specs.Laws.{IsFirst}
 use Rattle.answer.specs.Laws.{Passed, By}
 use Rattle.answer.proofs.CheckLaws.{given, not-given, passed, passed-one, passed-none, passed-done, done-passed, same-refusal, refused-by}
-use Rattle.lists.proofs.FirstLaws.{first-all, none-in, below-end, found-some, found-none, some-found, none-found}
+use Rattle.answer.proofs.WhichLaws.{only-one, first-is}
+use Rattle.lists.proofs.FirstLaws.{first-all, is-first, none-in, below-end, found-some, found-none, some-found, none-found}
 use Rattle.block.specs.declared.Words.{Words}
 use Rattle.block.specs.declared.Opened.the-variants.{Head, Refused}
 use Rattle.block.specs.Words.{wordAt, checkOf, Small}
@@ -37,7 +40,7 @@ of-small b s = first-all (above b) 1 257 (λ k l h. le-ltb 32748 (wordAt b k) (s
 
 -- ---- the lines of a block: which of them speaks
 module _ {A : Type 0} (b : List ℕ) (a : ℕ) (end : Outcome A) where
-  pub slots-unread : firstAbove b ≢ 0 → firstFail (slotLines b a) end ≡ refused 15 a 0
+  pub slots-unread : firstAbove b ≢ 0 → firstFail (slotLines b a) end ≡ refused 15 a (firstAbove b)
   slots-unread h = given (unread b a) (check b a ∷ []) end (found-some h)
 
   past-unread : firstAbove b ≡ 0 → firstFail (slotLines b a) end ≡ firstFail (check b a ∷ []) end
@@ -49,6 +52,19 @@ module _ {A : Type 0} (b : List ℕ) (a : ℕ) (end : Outcome A) where
   pub slots-end : firstAbove b ≡ 0 → checkOf b ≡ wordAt b 256 → firstFail (slotLines b a) end ≡ end
   unfolding firstFail
   slots-end z s = past-unread z ∙ not-given (check b a) [] end (ap not (eq-eqb (checkOf b) (wordAt b 256) s))
+
+  -- the first word above 32748 is named, and what is named is the first
+  pub dirty-speaks : (i : ℕ) → IsFirst (above b) 1 257 i → firstFail (blockLines b a) end ≡ refused 15 a i
+  unfolding firstAbove
+  dirty-speaks i f =
+      let e : firstAbove b ≡ i = is-first (above b) 1 257 i f in
+      given (unread b a) (check b a ∷ header b a ∷ []) end (found-some (λ (z : firstAbove b ≡ 0). omega (arith, f .from))) ∙ ap (refused 15 a) e
+
+pub speaks-dirty : {A : Type 0} (b : List ℕ) (a : ℕ) (v : A) (x i : ℕ) → firstFail (blockLines b a) (done v) ≡ refused 15 x i → IsFirst (above b) 1 257 i
+unfolding firstAbove some
+speaks-dirty b a v x i e =
+    let g = only-one 15 [] (unread b a) (check b a ∷ header b a ∷ []) v x i e refl refl .1 in
+    first-is (above b) 256 (g .given) (g .b-is)
 
 -- ---- a true block passes them, and what passes them is a true block
 pub true-passes : (b : List ℕ) (a : ℕ) → TrueBlock b → Passed (blockLines b a)
@@ -89,6 +105,12 @@ opens-true pile ws e =
     let q : done (frontWords pile) ≡ done ws = r .1 in
     (passes-true pile 1 (ltb-false (length pile) 512 (p .0)) (p .1), cc)
 
+pub unread-exactly : (pile : List ℕ) (i : ℕ) → 512 ≤ length pile → (opening pile ≡ refused 15 1 i) ↔ IsFirst (above pile) 1 257 i
+unread-exactly pile i l = (
+  λ e. speaks-dirty pile 1 (frontWords pile) 1 i (sym (opening-block pile l) ∙ e),
+  λ f. opening-block pile l ∙ dirty-speaks pile 1 (done (frontWords pile)) i f,
+)
+
 -- ---- which refusals opening gives
 told : {ls : List Line} {m a b : ℕ} (r : By ls m a b) (l : Line) → r .line ≡ l → Refusable (number (l .kind)) (l .a) (l .b) → Refusable m a b
 told r l e h =
@@ -101,13 +123,17 @@ wrong-place : (b : List ℕ) → header b 1 .given ≡ true → Refusable 17 1 (
 unfolding firstWrong
 wrong-place b g = by-header (some-found (firstWrong b) g) (below-end (λ i. not (rightAt b i)) 255)
 
+dirty-place : (b : List ℕ) → unread b 1 .given ≡ true → Refusable 15 1 (firstAbove b)
+unfolding firstAbove
+dirty-place b g = by-unread (some-found (firstAbove b) g) (below-end (above b) 256)
+
 pub which-refusals : (pile : List ℕ) (m a b : ℕ) → opening pile ≡ refused m a b → Refusable m a b
 unfolding opening
 which-refusals pile m a b e =
     let r = refused-by (torn pile ∷ blockLines pile 1) (frontWords pile) m a b e in
     ⊎-elim (λ (h : r .line ≡ torn pile). told r (torn pile) h by-torn)
     (λ (h : List·Memᴰ (r .line) (blockLines pile 1)).
-    ⊎-elim (λ (h : r .line ≡ unread pile 1). told r (unread pile 1) h by-unread)
+    ⊎-elim (λ (h : r .line ≡ unread pile 1). told r (unread pile 1) h (dirty-place pile (ap (λ (l : Line). l .given) (sym h) ∙ r .given)))
     (λ (h : List·Memᴰ (r .line) (check pile 1 ∷ header pile 1 ∷ [])).
     ⊎-elim (λ (h : r .line ≡ check pile 1). told r (check pile 1) h by-check)
     (λ (h : List·Memᴰ (r .line) (header pile 1 ∷ [])).

@@ -7,7 +7,9 @@ use mathlib.Core.Logic.{_≢_, _↔_}
 use mathlib.Core.List.{List, [], _++_}
 use lib.ListN.{length, getD, take}
 use Rattle.lists.specs.Run.{run}
-use Rattle.answer.specs.Outcome.{done, refused}
+use Rattle.lists.specs.Laws.{IsFirst}
+use Rattle.answer.specs.declared.Kind.the-variants.{Unread}
+use Rattle.answer.specs.Outcome.{done, refused, number}
 use Rattle.answer.specs.Laws.{Passed}
 use Rattle.block.specs.declared.deal.DealWords.{DealWords}
 use Rattle.block.specs.declared.Label.{Label}
@@ -15,7 +17,7 @@ use Rattle.block.specs.declared.Opened.{Opened}
 use Rattle.block.specs.Words.{wordAt, putAt, bytesOf}
 use Rattle.block.specs.Deals.{sameDeal}
 use Rattle.block.specs.Layout.{frontWords, widthOf, heldAt, Ranged, labelOf, valuesOf}
-use Rattle.block.specs.Open.{blockLines, opening, valueBytes, valueStart, opened, TrueBlock}
+use Rattle.block.specs.Open.{above, blockLines, opening, valueBytes, valueStart, opened, TrueBlock}
 use Rattle.block.specs.Written.{blockBytes, Buildable}
 
 -- The ranges of a label, as inequalities.
@@ -75,10 +77,14 @@ TrueOpens = (pile : List ℕ) → TrueBlock pile → opening pile ≡ done (fron
 abbrev pub OpensTrue : Type 0
 OpensTrue = (pile ws : List ℕ) → opening pile ≡ done ws → TrueBlock pile × (ws ≡ frontWords pile)
 
--- SCOPE 4, damage shows: one word, any of the 256, is overwritten with another value v. Above 32748 it is UNREAD, else CHECK.
+-- SCOPE 6, refusal 15: a block is UNREAD at word i exactly where word i exceeds 32748 and no word before it does.
+abbrev pub UnreadExactly : Type 0
+UnreadExactly = (pile : List ℕ) (i : ℕ) → 512 ≤ length pile → (opening pile ≡ refused (number Unread) 1 i) ↔ IsFirst (above pile) 1 257 i
+
+-- SCOPE 4, damage shows: one word, any of the 256, is overwritten with another value v. Above 32748 it is UNREAD at that word, else CHECK.
 abbrev pub Changed : Type 0
 Changed = (b : List ℕ) (i v : ℕ) → TrueBlock b → 1 ≤ i → i ≤ 256 → v ≢ wordAt b i
-    → (32748 < v → opening (putAt b i v) ≡ refused 15 1 0)
+    → (32748 < v → opening (putAt b i v) ≡ refused 15 1 i)
     × (v ≤ 32748 → opening (putAt b i v) ≡ refused 16 1 0)
 
 -- And where two words of 1 to 255 that differ change places, it is CHECK.
@@ -93,11 +99,11 @@ FirstBytes = (pile : List ℕ) → (opening (take 512 pile) ≡ opening pile) ×
 -- the refusals that opening can give, with their places
 pub data Refusable : ℕ → ℕ → ℕ → Type 0 where
   by-torn : Refusable 13 0 0
-  by-unread : Refusable 15 1 0
+  by-unread : {b : ℕ} → 1 ≤ b → b ≤ 256 → Refusable 15 1 b
   by-check : Refusable 16 1 0
   by-header : {b : ℕ} → 1 ≤ b → b ≤ 255 → Refusable 17 1 b
 
--- Opening gives no other: TORN, UNREAD, CHECK, or HEADER with a word from 1 to 255.
+-- Opening gives no other: TORN, UNREAD with a word from 1 to 256, CHECK, or HEADER with a word from 1 to 255.
 abbrev pub WhichRefusals : Type 0
 WhichRefusals = (pile : List ℕ) (m a b : ℕ) → opening pile ≡ refused m a b → Refusable m a b
 

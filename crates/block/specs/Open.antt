@@ -29,9 +29,9 @@ firstAbove b = firstIn (above b) 1 257
 abbrev pub torn : List ℕ → Line
 torn pile = line Torn (ltb (length pile) 512) 0 0
 
--- 15 UNREAD: some word exceeds 32748; a is the block
+-- 15 UNREAD: some word exceeds 32748; a is the block, b the first such word
 abbrev pub unread : List ℕ → ℕ → Line
-unread b a = line Unread (found (firstAbove b)) a 0
+unread b a = line Unread (found (firstAbove b)) a (firstAbove b)
 
 -- 16 CHECK: word 256 is not the check of the others; a is the block
 abbrev pub check : List ℕ → ℕ → Line

@@ -151,7 +151,7 @@ pub fn check_slots(rest: &[u8], a: usize) -> Answer
     let seen = scan(rest);
     let dirty = seen.dirty;
     if dirty != 0 {
-        return answer::refuse(Kind::Unread, a, 0);
+        return answer::refuse(Kind::Unread, a, dirty);
     }
     let sum = seen.sum;
     let kept = word(rest, 256);

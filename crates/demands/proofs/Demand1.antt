@@ -91,7 +91,7 @@ pub join-small : demand.JoinSmall
 join-small pile room w e a i h l u = joined.then-joins pile room w e .sound .blocks-true .block a (h .0) (h .1) .clean .small i l u
 
 pub join-unread : demand.JoinUnread
-join-unread pile room a i whole few k t l u h = unread pile a i l u h room whole few k t
+join-unread pile room a i whole few k t dirty = unread pile a i dirty room whole few k t
 
 pub deal-small : demand.DealSmall
 deal-small d holder room blocks e =

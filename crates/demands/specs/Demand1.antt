@@ -8,6 +8,7 @@ use mathlib.Core.Logic.{_⊎_}
 use lib.ListN.{length}
 use Rattle.lists.specs.Run.{run}
 use Rattle.lists.specs.Some.{_∈_}
+use Rattle.lists.specs.Laws.{IsFirst}
 use Rattle.answer.specs.Outcome.{Outcome, done, refused, number}
 use Rattle.answer.specs.Checks.{Line, numbers}
 use Rattle.answer.specs.Lent.{noRoom}
@@ -17,7 +18,7 @@ use Rattle.planning.specs.Groups.{groups, pieceCount}
 use Rattle.planning.specs.Policy.{Policy}
 use Rattle.planning.specs.Planned.{people, long, strangers, nobody, opens, clash, wide, planLines, planned}
 use Rattle.block.specs.Layout.{frontWords}
-use Rattle.block.specs.Open.{torn, unread, check, header, blockLines, opening, TrueBlock}
+use Rattle.block.specs.Open.{above, torn, unread, check, header, blockLines, opening, TrueBlock}
 use Rattle.block.specs.Laws.{Refusable}
 use Rattle.dealing.specs.Deal.{Deal, dealPieces}
 use Rattle.dealing.specs.Dealt.{badNumber, badHolder, badWidth, badSecret, badCount, badRandom, blockCount, dealLines, dealing, dealtInto}
@@ -120,7 +121,7 @@ JoinRefuses = (pile : List ℕ) (room : ℕ) → Refuses (joinLines pile room) (
 abbrev pub OpenRefuses : Type 0
 OpenRefuses = (pile : List ℕ) → Refuses (openLines pile) (opening pile)
 
--- Of opening: TORN; UNREAD, CHECK with a = 1; HEADER with a = 1 and a word of 1 to 255.
+-- Of opening: TORN; UNREAD with a = 1 and a word of 1 to 256; CHECK with a = 1; HEADER with a = 1 and a word of 1 to 255.
 abbrev pub OpeningPlaces : Type 0
 OpeningPlaces = (pile : List ℕ) (m a b : ℕ) → opening pile ≡ refused m a b → Refusable m a b
 
@@ -143,13 +144,13 @@ JoinKeeps = (pile out : List ℕ) (m a b : ℕ) → joining pile (length out) �
 abbrev pub JoinSmall : Type 0
 JoinSmall = (pile : List ℕ) (room w : ℕ) → joining pile room ≡ done w → (a i : ℕ) → In pile a → 1 ≤ i → i ≤ 256 → word pile a i ≤ 32748
 
--- And the card to clean is named: of whole blocks, at most 560, where the first that is not true has a slot above 32748, the answer is
--- UNREAD with that block's number.
+-- And the slot to clean is named: of whole blocks, at most 560, where the first that is not true has a slot above 32748, the answer is
+-- UNREAD with that block's number and that of its first such slot.
 abbrev pub JoinUnread : Type 0
 JoinUnread = (pile : List ℕ) (room a i : ℕ) → length pile % 512 ≡ 0 → blocks pile ≤ 560
     → In pile a → ((b : ℕ) → 1 ≤ b → b < a → TrueBlock (restFrom pile b))
-    → 1 ≤ i → i ≤ 256 → 32748 < word pile a i
-    → joining pile room ≡ refused 15 a 0
+    → IsFirst (above (restFrom pile a)) 1 257 i
+    → joining pile room ≡ refused 15 a i
 
 abbrev pub DealSmall : Type 0
 DealSmall = (d : Deal) (holder room blocks : ℕ) → dealing d holder room ≡ done blocks → Below (d .secret) × Below (d .random)

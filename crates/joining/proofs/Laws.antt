@@ -35,6 +35,9 @@ conflict-by-first = by-first
 pub conflict-with-first : law.ConflictWithFirst
 conflict-with-first = with-first
 
+pub unread-places : law.UnreadPlaces
+unread-places = place.unread-places
+
 pub header-places : law.HeaderPlaces
 header-places = place.header-places
 

@@ -6,7 +6,7 @@ use mathlib.Core.Bool.{not}
 use mathlib.Core.Logic.{_≢_}
 use mathlib.Core.List.{List, _++_}
 use lib.ListN.{length, getD, drop}
-use Rattle.answer.specs.declared.Kind.the-variants.{Room, Header, Mixed}
+use Rattle.answer.specs.declared.Kind.the-variants.{Room, Unread, Header, Mixed}
 use Rattle.answer.specs.Outcome.{done, refused, number}
 use Rattle.lists.specs.Laws.{IsFirst}
 use Rattle.lists.specs.Places.{found}
@@ -14,7 +14,7 @@ use Rattle.prime.specs.Prime.{p, Below}
 use Rattle.field.specs.Poly.{value, One}
 use Rattle.block.specs.Deals.{sameDeal}
 use Rattle.block.specs.Layout.{rightAt}
-use Rattle.block.specs.Open.{TrueBlock}
+use Rattle.block.specs.Open.{above, TrueBlock}
 use Rattle.pile.specs.Blocks.{blocks, restFrom, word, dealAt, firstBlock, TrueBlocks, In}
 use Rattle.joining.specs.Pile.{ownDeal, ownPieces, ownWidth, pieceAt, placeOf, valueOf, differIn, present}
 use Rattle.joining.specs.Checks.{contradictedBy, conflictAt}
@@ -61,6 +61,13 @@ abbrev pub ConflictWithFirst : Type 0
 ConflictWithFirst = (pile : List ℕ) → conflictAt pile ≢ 0 → contradictedBy pile (conflictAt pile) ≡ placeOf pile (pieceAt pile (conflictAt pile))
 
 -- ---- at which places joining refuses
+-- UNREAD: the blocks before block a are true, and b is the first of its 256 words that exceeds 32748.
+abbrev pub UnreadPlaces : Type 0
+UnreadPlaces = (pile : List ℕ) (room a b : ℕ) → joining pile room ≡ refused (number Unread) a b
+    → In pile a
+    × ((c : ℕ) → 1 ≤ c → c < a → TrueBlock (restFrom pile c))
+    × IsFirst (above (restFrom pile a)) 1 257 b
+
 -- HEADER: the blocks before block a are true, and b is the first of its words 1 to 255 that breaks the layout.
 abbrev pub HeaderPlaces : Type 0
 HeaderPlaces = (pile : List ℕ) (room a b : ℕ) → joining pile room ≡ refused (number Header) a b

@@ -10,10 +10,11 @@ use Rattle.answer.specs.Outcome.{Outcome, done, refused, number}
 use Rattle.answer.proofs.OneLaws.{refusal-one}
 use Rattle.answer.proofs.CheckLaws.{never-both}
 use Rattle.block.specs.declared.Opened.the-variants as opens
+use Rattle.block.specs.Layout.{frontWords}
 use Rattle.block.specs.Open.{opening, wordsOf, valueBytes, valueStart}
 use Rattle.block.proofs.OneLaws.{words-one}
 use Rattle.block.specs.Laws as opens-law
-use Rattle.block.proofs.OpenLaws.{opening-block, which-refusals as opens-which}
+use Rattle.block.proofs.OpenLaws.{opening-block, dirty-speaks, speaks-dirty, which-refusals as opens-which}
 use Rattle.block.proofs.ValueLaws as value
 use Rattle.pile.specs.Blocks.{blocks, restFrom}
 use Rattle.pile.proofs.PileLaws.{rest-long}
@@ -104,10 +105,22 @@ refused-empty pile n m a b h e =
     ap told (counted-opening pile (n + 1) (omega arith) (omega arith)) ∙ sym (seeing-block pile n h) ∙ e in
     values-passed pile n h .0 ∙ empty-of r (n + 1) m a b (opening r) refl cc
 
+-- ---- the slot that is named
+pub unread-exactly : law.UnreadExactly
+unfolding openingAt
+unread-exactly pile n i h =
+    let r = restFrom pile (n + 1) in (
+      λ e.
+          let f : told (openingAt pile (n + 1)) ≡ told (refused 15 (n + 1) i) = sym (seeing-block pile n h) ∙ e in
+          let g : openingAt pile (n + 1) ≡ refused 15 (n + 1) i = cc in
+          speaks-dirty r (n + 1) (frontWords r) (n + 1) i g,
+      λ f. seeing-block pile n h ∙ ap told (dirty-speaks r (n + 1) (done (frontWords r)) i f),
+    )
+
 -- ---- which refusals
 of-block : (n m x b : ℕ) → x ≡ 1 → opens-law.Refusable m x b → law.Refusable n m (n + 1) b
 of-block n m x b e opens-law.by-torn = let w : ⊥ = omega arith in absurd w
-of-block n m x b e opens-law.by-unread = law.by-unread
+of-block n m x b e (opens-law.by-unread l h) = law.by-unread l h
 of-block n m x b e opens-law.by-check = law.by-check
 of-block n m x b e (opens-law.by-header l h) = law.by-header l h
 

@@ -11,7 +11,7 @@ use borrow.Author.Tests.{le-leb, lt-leb}
 use Rattle.answer.specs.Outcome.{Outcome, done, refused}
 use Rattle.answer.specs.Checks.{pick, firstFail}
 use Rattle.block.specs.Layout.{frontWords, firstWrong}
-use Rattle.block.specs.Open.{blockLines, opening, unread, check, header, valueBytes, valueStart}
+use Rattle.block.specs.Open.{firstAbove, blockLines, opening, unread, check, header, valueBytes, valueStart}
 use Rattle.block.proofs.OpenLaws.{opening-block}
 use Rattle.pile.specs.Blocks.{blocks, restFrom}
 use Rattle.pile.proofs.PileLaws.{rest-long, part-rest}
@@ -45,7 +45,7 @@ counted-pick false m a b o o′ e = e
 pub counted-lines : (b : List ℕ) (a : ℕ) → counted a (firstFail (blockLines b 1) (done (frontWords b))) ≡ firstFail (blockLines b a) (done (frontWords b))
 unfolding firstFail
 counted-lines b a =
-    counted-pick (unread b 1 .given) 15 a 0 _ _
+    counted-pick (unread b 1 .given) 15 a (firstAbove b) _ _
     (counted-pick (check b 1 .given) 16 a 0 _ _
     (counted-pick (header b 1 .given) 17 a (firstWrong b) _ _ refl))
 

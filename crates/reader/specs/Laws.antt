@@ -2,11 +2,13 @@
 -- Assumes nothing.
 use Prim.Native.Nat.{ℕ, _+_, _*_, _%_, _≤_, _<_}
 use mathlib.Core.Path.{_≡_}
-use mathlib.Core.Logic.{_≢_}
+use mathlib.Core.Logic.{_≢_, _↔_}
 use mathlib.Core.List.{List, []}
 use lib.ListN.{length}
-use Rattle.answer.specs.Outcome.{refused}
-use Rattle.block.specs.Open.{opening, valueBytes, valueStart}
+use Rattle.lists.specs.Laws.{IsFirst}
+use Rattle.answer.specs.declared.Kind.the-variants.{Unread}
+use Rattle.answer.specs.Outcome.{refused, number}
+use Rattle.block.specs.Open.{above, opening, valueBytes, valueStart}
 use Rattle.pile.specs.Blocks.{blocks, restFrom}
 use Rattle.reader.specs.declared.Seen.{Seen}
 use Rattle.reader.specs.Seeing.{told, ended, sight, counted, seeing, after, valuesOf, valuesFrom, placeAfter, answerOf, reading}
@@ -53,10 +55,15 @@ ValuesStay = (pile : List ℕ) (n : ℕ) → blocks pile ≤ n
 abbrev pub RefusedEmpty : Type 0
 RefusedEmpty = (pile : List ℕ) (n m a b : ℕ) → n < blocks pile → seeing pile n ≡ told (refused m a b) → valuesOf pile (after pile n) ≡ []
 
+-- SCOPE 6, refusal 15: a block that is left is UNREAD at word i exactly where its word i exceeds 32748 and no word before it does.
+abbrev pub UnreadExactly : Type 0
+UnreadExactly = (pile : List ℕ) (n i : ℕ) → n < blocks pile
+    → (seeing pile n ≡ told (refused (number Unread) (n + 1) i)) ↔ IsFirst (above (restFrom pile (n + 1))) 1 257 i
+
 -- the refusals that the reader can give after n blocks, with their places
 pub data Refusable (n : ℕ) : ℕ → ℕ → ℕ → Type 0 where
   by-torn : Refusable n 13 0 0
-  by-unread : Refusable n 15 (n + 1) 0
+  by-unread : {b : ℕ} → 1 ≤ b → b ≤ 256 → Refusable n 15 (n + 1) b
   by-check : Refusable n 16 (n + 1) 0
   by-header : {b : ℕ} → 1 ≤ b → b ≤ 255 → Refusable n 17 (n + 1) b
 

@@ -113,6 +113,8 @@ fn main() {
     case(8, 32749, 2057);
     case(8, 32767, 2201);
     case(256, 32767, 32767);
+    case(8, 32767, 32767);
+    case(255, 40000, 65535);
     // a word changed with the check left, and the check changed
     case(8, 1247, 12025);
     case(256, 12026, 12026);

@@ -1,9 +1,9 @@
 -- `block::reading::check_slots` meets its contract: at each return the tests that led there say which line speaks. Assumes nothing.
 use denote.Ref.{now}
-use mathlib.Core.Path.{_≡_, sym, _∙_}
+use mathlib.Core.Path.{_≡_, sym, ap, _∙_}
 use mathlib.Core.List.{List}
 use Prim.Native.Nat.{ℕ}
-use Rattle.answer.specs.Outcome.{done}
+use Rattle.answer.specs.Outcome.{done, refused}
 use Rattle.block.specs.Words.{wordAt, checkOf}
 use Rattle.block.specs.Open.{firstAbove}
 use Rattle.block.proofs.ScanLaws.{clean-check}
@@ -28,7 +28,10 @@ agrees c = sym (sum-is (c .before)) ∙ c .if2 .left ∙ c .before .word .ensure
 returns : tie.Need-returns
 returns c =
     let k = c .before .before in
-    c .refuse .ensures ∙ sym (slots-unread (block k) (k .before .before .args .a) (done 0) (λ z. c .before .if1 .taken (k .scan .ensures .0 ∙ z)))
+    let a = k .before .before .args .a in
+    c .refuse .ensures
+    ∙ ap (refused 15 a) (k .scan .ensures .0)
+    ∙ sym (slots-unread (block k) a (done 0) (λ z. c .before .if1 .taken (k .scan .ensures .0 ∙ z)))
 
 returns-2 : tie.Need-returns-2
 returns-2 c =
