@@ -39,6 +39,8 @@ static titmeadow_answer answer(uint64_t call, const uint64_t *n, const struct li
         return titmeadow_join(l[0].at, l[0].size, out.at, out.size / 2);
     case 4:
         return titmeadow_open(l[0].at, l[0].size, out.at);
+    case 5:
+        return titmeadow_join_by_differences(l[0].at, l[0].size, out.at, out.size / 2);
     }
     exit(1);
 }

@@ -90,6 +90,11 @@ titmeadow_answer titmeadow_deal(size_t people, const uint16_t *required, size_t 
  * to the front of secret. room counts words. Refuses 13, 14; for one block after the other 15, 16, 17; last 18, 19, 20, 12. */
 titmeadow_answer titmeadow_join(const uint8_t *pile, size_t length, uint16_t *secret, size_t room);
 
+/* The same by differences alone, for a unit without room for the modular inverse: on every pile and every secret lent, the answer and the
+ * words are those of titmeadow_join. Linked with --gc-sections, a program that calls this joiner and not the other has nothing of the
+ * inverse and of the weights. */
+titmeadow_answer titmeadow_join_by_differences(const uint8_t *pile, size_t length, uint16_t *secret, size_t room);
+
 /* Opening the first block of a pile: the result is 7, and its words 1 to 7 are written to the seven places of head.
  * Refuses 13 (fewer than 512 bytes; a = 0, since there is no block); 15, 16, 17, each with a = 1. */
 titmeadow_answer titmeadow_open(const uint8_t *pile, size_t length, uint16_t head[TITMEADOW_PLACES(TITMEADOW_HEAD_WORDS)]);

@@ -16,6 +16,7 @@ static const struct {
     [PLAN] = {"titmeadow_plan", {1, 2, 3, 4, 5, 6}},
     [DEAL] = {"titmeadow_deal", {1, 2, 3, 4, 5, 6, 8, 9, 10, 11, 12}},
     [JOIN] = {"titmeadow_join", {12, 13, 14, 15, 16, 17, 18, 19, 20}},
+    [JOIN_BY_DIFFERENCES] = {"titmeadow_join_by_differences", {12, 13, 14, 15, 16, 17, 18, 19, 20}},
     [OPEN] = {"titmeadow_open", {13, 15, 16, 17}},
 };
 /* Those that no input gives: eight people never have over 70 maximal groups, and the listing program alone reads texts. */

@@ -13,7 +13,7 @@
 enum { BLOCK = TITMEADOW_BLOCK_BYTES };
 
 /* the exported calls; tests/calls.c has the refusals that each can give */
-enum call { PLAN, DEAL, JOIN, OPEN, CALLS };
+enum call { PLAN, DEAL, JOIN, JOIN_BY_DIFFERENCES, OPEN, CALLS };
 
 /* The cases: planning and dealing; joining and opening. */
 void cards(void);

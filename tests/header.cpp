@@ -10,5 +10,6 @@ int main() {
     good &= titmeadow_deal(4, required, 3, nullptr, 0, 7, 4, word, 1, randomness, 2, card, sizeof card).a == 1;
     good &= titmeadow_open(card, TITMEADOW_BLOCK_BYTES, head).a == TITMEADOW_HEAD_WORDS;
     good &= titmeadow_join(card, TITMEADOW_BLOCK_BYTES, secret, TITMEADOW_SECRET_MOST).number == TITMEADOW_SHORT;
+    good &= titmeadow_join_by_differences(card, TITMEADOW_BLOCK_BYTES, secret, TITMEADOW_SECRET_MOST).number == TITMEADOW_SHORT;
     return good ? 0 : 1;
 }

@@ -5,7 +5,7 @@
 static const struct {
     enum call call;
     titmeadow_answer (*join)(const uint8_t *pile, size_t length, uint16_t *secret, size_t room);
-} joiners[] = {{JOIN, titmeadow_join}};
+} joiners[] = {{JOIN, titmeadow_join}, {JOIN_BY_DIFFERENCES, titmeadow_join_by_differences}};
 
 /* A pile, and how it was before the call. */
 static uint8_t pile[TITMEADOW_PILE_MOST + 2][BLOCK], kept[sizeof pile];

@@ -7,15 +7,18 @@
 #include "titmeadow.h"
 
 static uint8_t stack[1 << 20] __attribute__((aligned(4096)));
-static uint8_t pile[560 * 512], card[35 * 512];
+static uint8_t pile[560 * 512], card[35 * 512], few[70 * 512];
 static uint16_t required[256], groups[70], secret[16], words[16], randomness[16 * 69], head[7];
-static size_t sets, piled;
+static size_t sets, piled, fewer;
 static volatile size_t sink;
 
 static void nothing(void) { sink = 1; }
 static void plan(void) { sink = titmeadow_plan(8, required, sets, required, 0, groups).a; }
 static void deal(void) { sink = titmeadow_deal(8, required, sets, required, 0, 7, 3, secret, 16, randomness, 16 * 69, card, sizeof card).a; }
 static void join(void) { sink = titmeadow_join(pile, piled, words, 16).a; }
+static void join_by_differences(void) { sink = titmeadow_join_by_differences(pile, piled, words, 16).a; }
+static void join_few(void) { sink = titmeadow_join(few, fewer, words, 16).number; }
+static void join_few_by_differences(void) { sink = titmeadow_join_by_differences(few, fewer, words, 16).number; }
 static void open(void) { sink = titmeadow_open(pile, piled, head).a; }
 
 static ucontext_t back, there;
@@ -39,6 +42,42 @@ static size_t used(void (*f)(void)) {
     return a > b ? a : b;
 }
 
+static void put(uint8_t *block, size_t i, size_t value) {
+    block[2 * i - 2] = (uint8_t)(value >> 8);
+    block[2 * i - 1] = (uint8_t)value;
+}
+
+/* one block of each of k pieces, of sixteen values that are j: whatever they are, they join */
+static void lay(size_t k) {
+    for (size_t j = 1; j <= k; j++) {
+        const size_t front[] = {1987, 7, 1, 8, k, 16, j};
+        uint8_t *block = few + 512 * (j - 1);
+        size_t sum = 0;
+        memset(block, 0, 512);
+        for (size_t i = 1; i <= 23; i++) {
+            size_t value = i <= 7 ? front[i - 1] : j;
+            put(block, i, value);
+            sum += i * value;
+        }
+        put(block, 256, sum % 32749);
+    }
+    fewer = 512 * k;
+}
+
+/* the least and the most that a joiner takes, over all numbers of pieces */
+static void over_k(const char *name, void (*f)(void), size_t base) {
+    size_t least = SIZE_MAX, most = 0;
+    for (size_t k = 1; k <= 70; k++) {
+        lay(k);
+        size_t bytes = used(f) - base;
+        if (sink != 0)
+            printf("%zu pieces were refused with %zu\n", k, (size_t)sink);
+        least = bytes < least ? bytes : least;
+        most = bytes > most ? bytes : most;
+    }
+    printf("| `%s`, of 1 to 70 pieces | %zu to %zu |\n", name, least, most);
+}
+
 int main(void) {
     for (unsigned set = 0; set < 256; set++)
         if (__builtin_popcount(set) == 5)
@@ -46,11 +85,14 @@ int main(void) {
     for (size_t holder = 1; holder <= 8; holder++)
         piled += 512 * titmeadow_deal(8, required, sets, required, 0, 7, holder, secret, 16, randomness, 16 * 69, pile + piled, sizeof pile - piled).a;
     struct { const char *name; void (*f)(void); } calls[] = {
-        {"titmeadow_plan", plan}, {"titmeadow_deal", deal}, {"titmeadow_join", join}, {"titmeadow_open", open}};
+        {"titmeadow_plan", plan}, {"titmeadow_deal", deal}, {"titmeadow_join", join}, {"titmeadow_join_by_differences", join_by_differences},
+        {"titmeadow_open", open}};
     size_t base = used(nothing);
     for (size_t i = 0; i < sizeof calls / sizeof *calls; i++) {
         size_t bytes = used(calls[i].f) - base;
         printf("| `%s` | %zu |\n", calls[i].name, bytes);
     }
-    return sink == 0;
+    over_k("titmeadow_join", join_few, base);
+    over_k("titmeadow_join_by_differences", join_few_by_differences, base);
+    return 0;
 }

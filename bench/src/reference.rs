@@ -1,8 +1,10 @@
 //! SCOPE written a second time: nothing here is shared with the proved code.
 //! Where the proved code and this disagree, SCOPE decides.
 
+mod joined;
 mod programs;
 
+pub use joined::{by_differences, join, join_by_differences, weights};
 pub use programs::{joining, listing, read_policy};
 
 /// The prime of the build.
@@ -202,34 +204,22 @@ pub fn open(pile: &[u8]) -> Result<[u16; 7], Refusal> {
     Ok(head)
 }
 
-fn power(base: u64, mut exponent: u64) -> u64 {
-    let (mut base, mut result) = (base % P, 1);
-    while exponent > 0 {
-        if exponent & 1 == 1 {
-            result = result * base % P;
-        }
-        base = base * base % P;
-        exponent >>= 1;
+/// What the checks of joining leave of a pile: the words 1 to 23 of its blocks, which block is the first of each piece, and w.
+struct Complete {
+    blocks: Vec<[u16; 23]>,
+    first: Vec<usize>,
+    w: usize,
+}
+
+impl Complete {
+    /// Value i, from 0, of piece j, from 0.
+    fn value(&self, j: usize, i: usize) -> u16 {
+        self.blocks[self.first[j]][7 + i]
     }
-    result
 }
 
-/// What each piece 1 to k weighs, where the polynomial through them is taken at 0: Lagrange, inverses by Fermat.
-pub fn weights(k: usize) -> Vec<u64> {
-    (1..=k as u64)
-        .map(|j| {
-            let (mut above, mut below) = (1, 1);
-            for i in (1..=k as u64).filter(|i| *i != j) {
-                above = above * i % P;
-                below = below * (i + P - j) % P;
-            }
-            above * power(below, P - 2) % P
-        })
-        .collect()
-}
-
-/// Joining: the secret into the front of `out`; the number of its words.
-pub fn join(pile: &[u8], out: &mut [u16]) -> Result<usize, Refusal> {
+/// All checks of joining a pile into so many words.
+fn complete(pile: &[u8], room: usize) -> Result<Complete, Refusal> {
     if pile.len() % BLOCK != 0 {
         return refuse(13, 0, 0);
     }
@@ -265,13 +255,9 @@ pub fn join(pile: &[u8], out: &mut [u16]) -> Result<usize, Refusal> {
     if present < k {
         return refuse(20, present, k);
     }
-    if out.len() < w {
+    if room < w {
         return refuse(12, w, 0);
     }
-    let weights = weights(k);
-    for i in 0..w {
-        let sum: u64 = (0..k).map(|j| weights[j] * blocks[earlier[j][0]][7 + i] as u64).sum();
-        out[i] = (sum % P) as u16;
-    }
-    Ok(w)
+    let first = earlier.iter().map(|blocks| blocks[0]).collect();
+    Ok(Complete { blocks, first, w })
 }

@@ -41,6 +41,11 @@ pub fn join(pile: &[u8], out: &mut [u16]) -> Result<usize, Refusal> {
     calls::join(pile, out).result()
 }
 
+/// The same by differences alone.
+pub fn join_by_differences(pile: &[u8], out: &mut [u16]) -> Result<usize, Refusal> {
+    calls::join_by_differences(pile, out).result()
+}
+
 /// Words 1 to 7 of the first block.
 pub fn open(pile: &[u8], head: &mut [u16; 7]) -> Result<usize, Refusal> {
     calls::open(pile, head).result()

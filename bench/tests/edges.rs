@@ -4,6 +4,9 @@ use bench::inputs::{blocks, card, with_word};
 use bench::reference::{Deal, Refusal, BLOCK};
 use bench::unit;
 
+/// Both joiners: every case of joining goes through each.
+const JOINERS: [fn(&[u8], &mut [u16]) -> Result<usize, Refusal>; 2] = [unit::join, unit::join_by_differences];
+
 fn p7() -> Deal {
     Deal { people: 4, required: vec![3, 6, 12], forbidden: vec![9], number: 7, secret: vec![1234], random: vec![5, 7] }
 }
@@ -16,21 +19,25 @@ fn refused(number: usize, a: usize, b: usize) -> Result<usize, Refusal> {
 fn blocks_560_and_561() {
     let three = blocks(&p7(), 3);
     let pile = |count: usize| (0..count).flat_map(|i| three[i % three.len()].clone()).collect::<Vec<u8>>();
-    let mut out = [9; 2];
-    assert_eq!(unit::join(&pile(560), &mut out), Ok(1));
-    assert_eq!(out, [1234, 9]);
-    let mut out = [9; 2];
-    assert_eq!(unit::join(&pile(561), &mut out), refused(14, 0, 0));
-    assert_eq!(out, [9, 9]);
+    for join in JOINERS {
+        let mut out = [9; 2];
+        assert_eq!(join(&pile(560), &mut out), Ok(1));
+        assert_eq!(out, [1234, 9]);
+        let mut out = [9; 2];
+        assert_eq!(join(&pile(561), &mut out), refused(14, 0, 0));
+        assert_eq!(out, [9, 9]);
+    }
 }
 
 #[test]
 fn every_order_of_three_pieces() {
     let three = blocks(&p7(), 3);
     for order in [[0, 1, 2], [0, 2, 1], [1, 0, 2], [1, 2, 0], [2, 0, 1], [2, 1, 0]] {
-        let mut out = [9];
-        assert_eq!(unit::join(&order.map(|i| three[i].clone()).concat(), &mut out), Ok(1));
-        assert_eq!(out, [1234]);
+        for join in JOINERS {
+            let mut out = [9];
+            assert_eq!(join(&order.map(|i| three[i].clone()).concat(), &mut out), Ok(1));
+            assert_eq!(out, [1234]);
+        }
     }
 }
 
@@ -38,12 +45,14 @@ fn every_order_of_three_pieces() {
 fn output_too_short() {
     let d = Deal { secret: vec![1, 2, 3], random: vec![0; 6], ..p7() };
     let pile = blocks(&d, 3).concat();
-    let mut out = [9; 2];
-    assert_eq!(unit::join(&pile, &mut out), refused(12, 3, 0));
-    assert_eq!(out, [9; 2]);
-    let mut out = [9; 3];
-    assert_eq!(unit::join(&pile, &mut out), Ok(3));
-    assert_eq!(out, [1, 2, 3]);
+    for join in JOINERS {
+        let mut out = [9; 2];
+        assert_eq!(join(&pile, &mut out), refused(12, 3, 0));
+        assert_eq!(out, [9; 2]);
+        let mut out = [9; 3];
+        assert_eq!(join(&pile, &mut out), Ok(3));
+        assert_eq!(out, [1, 2, 3]);
+    }
     let mut out = vec![9; 2 * BLOCK - 1];
     assert_eq!(unit::deal(&d, 2, &mut out), refused(12, 2, 0));
     assert!(out.iter().all(|byte| *byte == 9));
@@ -59,9 +68,11 @@ fn slots_of_32748_32749_and_32767() {
         with_word(&mut pile[BLOCK..2 * BLOCK], 8, slot, true);
         pile
     };
-    assert_eq!(unit::join(&pile(32748), &mut [0]), Ok(1));
-    assert_eq!(unit::join(&pile(32749), &mut [0]), refused(15, 2, 8));
-    assert_eq!(unit::join(&pile(32767), &mut [0]), refused(15, 2, 8));
+    for join in JOINERS {
+        assert_eq!(join(&pile(32748), &mut [0]), Ok(1));
+        assert_eq!(join(&pile(32749), &mut [0]), refused(15, 2, 8));
+        assert_eq!(join(&pile(32767), &mut [0]), refused(15, 2, 8));
+    }
 }
 
 #[test]
@@ -77,7 +88,9 @@ fn the_first_dirty_slot_is_named() {
     for first in 1..=256 {
         for slots in [vec![first], vec![first, 256], vec![256, 128.max(first), first]] {
             let (pile, mut out, mut head) = (dirty(&slots), [9; 1], [9; 7]);
-            assert_eq!(unit::join(&pile, &mut out), refused(15, 2, first));
+            for join in JOINERS {
+                assert_eq!(join(&pile, &mut out), refused(15, 2, first));
+            }
             assert_eq!(unit::open(&pile[BLOCK..], &mut head), refused(15, 1, first));
             assert_eq!((out, head), ([9; 1], [9; 7]));
         }

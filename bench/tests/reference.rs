@@ -1,4 +1,5 @@
 //! The independent implementation on the cases of SCOPE 8, so that what the library is held to is itself held to the text.
+use bench::numbers::Numbers;
 use bench::reference::*;
 
 fn p11() -> Deal {
@@ -38,6 +39,30 @@ fn p7_to_p10() {
     assert_eq!(pieces(0, &[23483, 10512])[2], 1312);
     let sum: u64 = weights(3).iter().zip([1246, 1272, 1312]).map(|(w, v)| w * v).sum();
     assert_eq!(sum % P, 1234);
+    assert_eq!(by_differences(&[1246, 1272, 1312]), 1234);
+    assert_eq!(by_differences(&[0, 1, 2]), 32748);
+}
+
+/// Both formulas, for every number of pieces: the word that was dealt, and one answer for any pieces.
+#[test]
+fn two_formulas_from_1_to_70() {
+    let mut n = Numbers::new(4);
+    for k in 1..=70 {
+        let weights = weights(k);
+        let weighed = |pieces: &[u16]| {
+            let sum: u64 = weights.iter().zip(pieces).map(|(weight, piece)| weight * *piece as u64).sum();
+            (sum % P) as u16
+        };
+        for _ in 0..100 {
+            let word = n.word();
+            let coefficients: Vec<u16> = (1..k).map(|_| n.word()).collect();
+            let pieces: Vec<u16> = (1..=k).map(|j| piece(word, &coefficients, j)).collect();
+            assert_eq!(weighed(&pieces), word, "{k} pieces {pieces:?}");
+            assert_eq!(by_differences(&pieces), word, "{k} pieces {pieces:?}");
+            let pieces: Vec<u16> = (0..k).map(|_| if n.once_in(4) { 32748 * n.below(2) as u16 } else { n.word() }).collect();
+            assert_eq!(weighed(&pieces), by_differences(&pieces), "{k} pieces {pieces:?}");
+        }
+    }
 }
 
 #[test]

@@ -109,12 +109,14 @@ fn piles() {
             let pile = inputs::pile(&mut n, &d);
             let room = if n.once_in(4) { n.below(17) } else { 16 };
             let before: Vec<u16> = (0..room).map(|_| n.next() as u16).collect();
-            let (mut ours, mut theirs) = (before.clone(), before);
-            let said = unit::join(&pile, &mut ours);
+            let mut theirs = before.clone();
             let expected = reference::join(&pile, &mut theirs);
             met.note(&expected);
-            assert_eq!(said, expected, "{d:?}");
-            assert_eq!(ours, theirs, "{d:?}");
+            for join in [unit::join, unit::join_by_differences, reference::join_by_differences] {
+                let mut ours = before.clone();
+                assert_eq!(join(&pile, &mut ours), expected, "{d:?}");
+                assert_eq!(ours, theirs, "{d:?}");
+            }
             let before: [u16; 7] = std::array::from_fn(|_| n.next() as u16);
             let mut head = before;
             let said = unit::open(&pile, &mut head);

@@ -1,4 +1,4 @@
-//! Benchmarks: the proved library against the independent Rust, in one run, both built for release.
+//! Benchmarks: the proved library against the independent Rust, in one run, both built for release; then its two joiners against each other.
 //! Median of many rounds; the two take turns within a round. Buffers are not cleared between calls.
 use bench::inputs;
 use bench::reference::{self, Deal, BLOCK};
@@ -77,6 +77,33 @@ fn join(name: &str, pile: &[u8]) {
     );
 }
 
+/// One block of each of k pieces, of sixteen words; any values are pieces of some secret.
+fn any_pieces(k: usize) -> Vec<u8> {
+    let values = |j: usize| (0..16).map(|i| ((i * 7919 + j * j * 2047) % 32749) as u16).collect::<Vec<u16>>();
+    (1..=k).flat_map(|j| reference::bytes_of(&reference::block_words([1987, 7, 1, 8, k as u16, 16, j as u16], &values(j)))).collect()
+}
+
+/// The two joiners side by side, for each number of pieces.
+fn joiners() {
+    println!("\n| pieces | by differences, µs | by weights, µs | ratio | middle half |");
+    println!("|---|---|---|---|---|");
+    for k in 1..=70 {
+        let pile = any_pieces(k);
+        let (mut one, mut other) = ([0; 16], [0; 16]);
+        assert_eq!(unit::join_by_differences(&pile, &mut one), unit::join(&pile, &mut other));
+        assert_eq!(one, other);
+        compare(
+            &k.to_string(),
+            || {
+                black_box(unit::join_by_differences(black_box(&pile), &mut one)).ok();
+            },
+            || {
+                black_box(unit::join(black_box(&pile), &mut other)).ok();
+            },
+        );
+    }
+}
+
 fn main() {
     if cfg!(not(target_arch = "x86_64")) {
         eprintln!("speed: the library is for x86-64, and here it runs behind a pipe in an emulator, of which a time says nothing");
@@ -121,4 +148,5 @@ fn main() {
     let few = pieces(&d);
     let many: Vec<u8> = (0..560).flat_map(|i| few[i % few.len()].clone()).collect();
     join("joining 560 blocks of 20 pieces", &many);
+    joiners();
 }

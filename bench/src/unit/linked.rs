@@ -27,6 +27,7 @@ extern "C" {
         room: usize,
     ) -> Answer;
     fn titmeadow_join(pile: *const u8, length: usize, secret: *mut u16, room: usize) -> Answer;
+    fn titmeadow_join_by_differences(pile: *const u8, length: usize, secret: *mut u16, room: usize) -> Answer;
     fn titmeadow_open(pile: *const u8, length: usize, head: *mut u16) -> Answer;
 }
 
@@ -56,6 +57,10 @@ pub fn deal(d: &Deal, holder: usize, out: &mut [u8]) -> Answer {
 
 pub fn join(pile: &[u8], out: &mut [u16]) -> Answer {
     unsafe { titmeadow_join(pile.as_ptr(), pile.len(), out.as_mut_ptr(), out.len()) }
+}
+
+pub fn join_by_differences(pile: &[u8], out: &mut [u16]) -> Answer {
+    unsafe { titmeadow_join_by_differences(pile.as_ptr(), pile.len(), out.as_mut_ptr(), out.len()) }
 }
 
 pub fn open(pile: &[u8], head: &mut [u16; 7]) -> Answer {

@@ -83,6 +83,10 @@ pub fn join(pile: &[u8], out: &mut [u16]) -> Answer {
     ask_words(3, [0; 3], [pile, &[], &[], &[]], out)
 }
 
+pub fn join_by_differences(pile: &[u8], out: &mut [u16]) -> Answer {
+    ask_words(5, [0; 3], [pile, &[], &[], &[]], out)
+}
+
 pub fn open(pile: &[u8], head: &mut [u16; 7]) -> Answer {
     ask_words(4, [0; 3], [pile, &[], &[], &[]], head)
 }

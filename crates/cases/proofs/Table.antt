@@ -8,6 +8,7 @@ use Rattle.lists.specs.Places.{firstFrom, firstPlace, those}
 use Rattle.field.specs.Poly.{value}
 use Rattle.lists.specs.Run.{run}
 use Rattle.field.specs.Joined.{joined, joinedIn, diffs}
+use Rattle.field.specs.Differences.{rowsIn, rows, firsts, withPlus, withMinus, alternating, byDifferences}
 use Rattle.prime.specs.Prime.{minus}
 use Rattle.planning.specs.Sets.{member, inside, stranger, marks}
 use Rattle.lists.specs.Some.{each, some}
@@ -21,7 +22,7 @@ use Rattle.cases.proofs.Listing.{prints}
 use Rattle.cases.proofs.Bytes.{the-block, dealt, short-two}
 
 pub table : Table
-unfolding planned plannedRows rowsOf marks planLines listLines people long strangers nobody opens clashPlace clash wide firstFail firstFrom firstPlace those member each inside stranger some authorised tight maximalBy groupsBy holds held set run value joined joinedIn diffs minus
+unfolding planned plannedRows rowsOf marks planLines listLines people long strangers nobody opens clashPlace clash wide firstFail firstFrom firstPlace those member each inside stranger some authorised tight maximalBy groupsBy holds held set run value joined joinedIn diffs rowsIn rows firsts withPlus withMinus alternating byDifferences minus
 table =
     record {
       p1 = (record { answer = refl; groups-are = refl; rows = refl }, refl, prints);
@@ -32,6 +33,7 @@ table =
       p6 = record { answer = refl; groups-are = refl; rows = refl };
       p7 = refl;
       p8 = refl;
+      p8-by-differences = (refl, refl, refl, refl);
       p9 = refl;
       p10 = (refl, refl);
       p11 = (the-block, λ out room. (dealt out room, dealing.result-writes deal11 4 out 1 (dealt out room) .3 ∙ ap (λ b. b ++ drop 512 out) the-block));

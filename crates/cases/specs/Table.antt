@@ -1,4 +1,4 @@
--- SCOPE 8.1: P1 to P12 in its order and with its figures, each over the definitions that the promises cite.
+-- SCOPE 8.1: P1 to P12, with P8 by differences too, in its order and with its figures, each over the definitions that the promises cite.
 -- Assumes nothing.
 use mathlib.Core.Path.{_≡_}
 use mathlib.Core.List.{List, [], _∷_, _++_, map}
@@ -9,6 +9,7 @@ use Rattle.answer.specs.Outcome.{done, refused, number}
 use Rattle.field.specs.Poly.{piece}
 use Rattle.lists.specs.Run.{run}
 use Rattle.field.specs.Joined.{joined}
+use Rattle.field.specs.Differences.{rows, firsts, alternating, byDifferences}
 use Rattle.planning.specs.Groups.{held}
 use Rattle.planning.specs.Policy.{Policy, policyOf}
 use Rattle.planning.specs.Planned.{planned}
@@ -79,6 +80,11 @@ pub record Table : Type 0 where
   pub p7 : run (piece 1234 (5 ∷ 7 ∷ [])) 1 3 ≡ 1246 ∷ 1272 ∷ 1312 ∷ []
   -- those three pieces, joined
   pub p8 : joined (1246 ∷ 1272 ∷ 1312 ∷ []) ≡ 1234
+  -- the same by differences: the three rows, their first numbers, and 1246 − 26 + 14
+  pub p8-by-differences : (rows (1246 ∷ 1272 ∷ 1312 ∷ []) ≡ (1246 ∷ 1272 ∷ 1312 ∷ []) ∷ (26 ∷ 40 ∷ []) ∷ (14 ∷ []) ∷ [])
+      × (firsts (1246 ∷ 1272 ∷ 1312 ∷ []) ≡ 1246 ∷ 26 ∷ 14 ∷ [])
+      × (alternating (1246 ∷ 26 ∷ 14 ∷ []) ≡ 1234)
+      × (byDifferences (1246 ∷ 1272 ∷ 1312 ∷ []) ≡ 1234)
   -- the pieces of the word 32748 with the coefficients 1 and 0
   pub p9 : run (piece 32748 (1 ∷ 0 ∷ [])) 1 3 ≡ 0 ∷ 1 ∷ 2 ∷ []
   -- the word 0 with the coefficients 23483 and 10512: its pieces 1 and 3 are as in P7

@@ -1,5 +1,6 @@
 -- Demand 1, proved: each statement by its name in specs/Demand1.antt. Assumes nothing.
-use mathlib.Core.Path.{refl, sym}
+use mathlib.Core.Path.{refl, sym, subst⁻¹, _∙_}
+use lib.ListN.{length}
 use Rattle.answer.proofs.WhichLaws.{refused-number}
 use Rattle.planning.specs.Groups.{pieceCount}
 use Rattle.planning.specs.Planned.{planLines, planned, listLines}
@@ -85,6 +86,13 @@ deal-keeps = dealt.refusal-keeps
 
 pub join-keeps : demand.JoinKeeps
 join-keeps = joined.refusal-keeps
+
+pub either-joins : demand.EitherJoins
+either-joins pile old x out p = (
+  subst⁻¹ (demand.Ends (joinLines pile (length old)) (ownWidth pile)) (p .says) (join-ends pile (length old)),
+  subst⁻¹ (demand.Refuses (joinLines pile (length old))) (p .says) (join-refuses pile (length old)),
+  λ m a b e. p .leaves ∙ join-keeps pile old m a b (sym (p .says) ∙ e),
+)
 
 -- ---- slots
 pub join-small : demand.JoinSmall

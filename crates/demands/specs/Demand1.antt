@@ -9,7 +9,8 @@ use lib.ListN.{length}
 use Rattle.lists.specs.Run.{run}
 use Rattle.lists.specs.Some.{_∈_}
 use Rattle.lists.specs.Laws.{IsFirst}
-use Rattle.answer.specs.Outcome.{Outcome, done, refused, number}
+use Rattle.answer.specs.declared.Answer.{Answer}
+use Rattle.answer.specs.Outcome.{Outcome, outcome, done, refused, number}
 use Rattle.answer.specs.Checks.{Line, numbers}
 use Rattle.answer.specs.Lent.{noRoom}
 use Rattle.answer.specs.Laws.{Passed}
@@ -27,10 +28,11 @@ use Rattle.pile.specs.Lines.{tornPile, longPile, everyBlock}
 use Rattle.joining.specs.Pile.{ownWidth}
 use Rattle.joining.specs.Checks.{mixed, conflict, short}
 use Rattle.joining.specs.Joined.{joinLines, joining, joinedInto}
+use Rattle.joining.specs.Laws.{JoinPromised}
 
--- A call is planning::plan, dealing::deal, joining::join or block::open; specs/Readings has the others. None has a `requires`, so each takes
--- every input; that it ends is what proving a function shows; and its contract says that its answer is `planned`, `dealing`, `joining` or
--- `opening` of its arguments.
+-- A call is planning::plan, dealing::deal, joining::join, joining::join_by_differences or block::open; specs/Readings has the others. None has
+-- a `requires`, so each takes every input; that it ends is what proving a function shows; and its contract says that its answer is `planned`,
+-- `dealing`, `joining` or `opening` of its arguments: `joining` of both joiners.
 
 -- ---- in its result or in a refusal
 -- the refusal m, a, b is that of the first of the lines that is given: those before it pass
@@ -136,11 +138,19 @@ DealKeeps = (d : Deal) (holder : ℕ) (out : List ℕ) (m a b : ℕ) → dealing
 abbrev pub JoinKeeps : Type 0
 JoinKeeps = (pile out : List ℕ) (m a b : ℕ) → joining pile (length out) ≡ refused m a b → joinedInto pile out ≡ out
 
+-- ---- So of either joiner: whatever answer and output its promise allows, it ends as said of joining, with no other refusal, and where it
+-- refuses, the output is as it was lent.
+abbrev pub EitherJoins : Type 0
+EitherJoins = (pile old : List ℕ) (x : Answer) (out : List ℕ) → JoinPromised pile old x out
+    → Ends (joinLines pile (length old)) (ownWidth pile) (outcome x)
+    × Refuses (joinLines pile (length old)) (outcome x)
+    × ((m a b : ℕ) → outcome x ≡ refused m a b → out ≡ old)
+
 -- ---- No slot above 32748 gets into a sum.
--- Of the code: the sums mod p are in block's `weigh` and in field's `value_at`, `piece_of` and `join_word`, each of which requires that what
--- enters is at most 32748, and every caller shows it; words that are lengths are added to offsets only after the checks. That no other function
--- sums words is seen by reading the code, and not proved. Of what is answered: joining and dealing give a result only where every slot of every
--- block, and every word of the secret and of the randomness, is at most 32748.
+-- Of the code: the sums mod p are in block's `weigh`, in field's `value_at`, `piece_of` and `join_word`, and, of differences, in `subtract`, each
+-- of which requires that what enters is at most 32748, and every caller shows it; words that are lengths are added to offsets only after the
+-- checks. That no other function sums words is seen by reading the code, and not proved. Of what is answered: joining and dealing give a result
+-- only where every slot of every block, and every word of the secret and of the randomness, is at most 32748.
 abbrev pub JoinSmall : Type 0
 JoinSmall = (pile : List ℕ) (room w : ℕ) → joining pile room ≡ done w → (a i : ℕ) → In pile a → 1 ≤ i → i ≤ 256 → word pile a i ≤ 32748
 

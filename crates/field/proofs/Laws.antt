@@ -9,6 +9,7 @@ use Rattle.field.specs.Joined.{joined}
 use Rattle.field.specs.Poly.{value, Through, One}
 use Rattle.field.specs.Laws as law
 use Rattle.field.proofs.Unique as unique
+use Rattle.field.proofs.DifferenceLaws as differences
 use Rattle.field.proofs.ValuesLaws as values
 use Rattle.field.proofs.RoundTrip as trip
 use Rattle.field.proofs.Loosened as loosened
@@ -33,6 +34,12 @@ joined-one ys b l =
     let cs = curve.curve (length ys) 1 ys in
     let t = curve.through-some ys b l in
     (cs, record { is = t; only = λ ds u. unique.through-one ds cs ys l u t }, unique.joined-value cs ys t ∙ unique.value-start cs (t .below))
+
+pub by-differences : law.ByDifferences
+by-differences = differences.by-differences
+
+pub rows-end : law.RowsEnd
+rows-end = differences.rows-end
 
 pub round-trip : law.RoundTrip
 round-trip = unique.round-trip-one

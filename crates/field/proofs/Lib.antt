@@ -1,5 +1,7 @@
 pub mod Degree
 pub mod Sums
+pub mod DifferenceLaws
+pub mod RowLaws
 pub mod Horner
 pub mod Unique
 pub mod ValuesLaws

@@ -2,7 +2,7 @@
 -- Assumes nothing.
 use mathlib.Core.Path.{_≡_}
 use mathlib.Core.Logic.{_≢_}
-use mathlib.Core.List.{List, _∷_}
+use mathlib.Core.List.{List, [], _∷_}
 use Prim.Native.Nat.{ℕ, _+_, _-_, _*_, _%_, _≤_, _<_}
 use lib.ListN.{length, getD, take, drop, replicate}
 use Rattle.lists.specs.Run.{run}
@@ -11,6 +11,7 @@ use Rattle.field.specs.Poly.{value, piece, Through, One}
 use Rattle.field.specs.Hiding.{Matched, Hidden, Gives}
 use Rattle.field.specs.Pieces.{values, Random, Paired, GivesValues}
 use Rattle.field.specs.Joined.{joined}
+use Rattle.field.specs.Differences.{rows, byDifferences}
 use Rattle.prime.specs.Inverse.{inverse}
 use Rattle.field.specs.Lagrange.{Weights, weightsOf}
 use Rattle.field.specs.Added.{added}
@@ -34,6 +35,15 @@ ValuesFit = (q : ℕ) (ds rs : List ℕ) (j : ℕ) → (length (values q ds rs j
 -- The joined word is its value at 0.
 abbrev pub JoinedOne : Type 0
 JoinedOne = (ys : List ℕ) → Below ys → length ys < p → (cs : List ℕ) × One (λ ds. Through ds ys) cs × (joined ys ≡ value cs 0)
+
+-- Differences alone give the joined word, of however many pieces.
+abbrev pub ByDifferences : Type 0
+ByDifferences = (ys : List ℕ) → byDifferences ys ≡ joined ys
+
+-- Of k pieces there are k rows; row i has k + 1 − i numbers, so that the last has one.
+abbrev pub RowsEnd : Type 0
+RowsEnd = (ys : List ℕ) → (length (rows ys) ≡ length ys)
+    × ((i : ℕ) → 1 ≤ i → i ≤ length ys → length (getD (rows ys) (i - 1) []) ≡ length ys + 1 - i)
 
 -- Joining the k pieces of the word d gives d, whatever its k−1 coefficients are.
 abbrev pub RoundTrip : Type 0

@@ -2,6 +2,7 @@ pub mod Poly
 pub mod Hiding
 pub mod Pieces
 pub mod Joined
+pub mod Differences
 pub mod Lagrange
 pub mod Added
 pub mod Secret

@@ -1,5 +1,8 @@
-// Arithmetic mod 32749: the pieces of a word, the modular inverse, and joining one word by Lagrange's formula.
+// Arithmetic mod 32749: the pieces of a word, the modular inverse, and joining one word by Lagrange's formula; by differences in differences.rt.
 // No value above 32748 enters a sum: where one could, a `requires` says so and every caller shows it.
+mod differences;
+
+pub use differences::join_by_differences;
 ghost use mathlib.Core.Path.{_≡_};
 ghost use mathlib.Core.List.{_∷_};
 ghost use Prim.Native.Nat.{_*_, _%_, _<_, _≤_};

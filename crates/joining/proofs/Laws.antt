@@ -1,12 +1,14 @@
 -- This room's laws, proved: each by its name in specs/Laws.antt. Assumes nothing.
-use mathlib.Core.Path.{_≡_, ap, _∙_}
+use mathlib.Core.Path.{_≡_, sym, ap, _∙_}
 use mathlib.Core.List.{_++_}
 use Prim.Native.Nat.{ℕ}
 use native.Mathlib.Omega.{arith}
 use lib.ListN.{length, drop}
 use Rattle.lists.specs.Over.{over}
 use Rattle.answer.proofs.LentLaws as lent
-use Rattle.field.proofs.SecretLaws.{secret-length}
+use Rattle.field.specs.Secret.{column}
+use Rattle.field.proofs.SecretLaws.{secret-length, secret-at}
+use Rattle.field.proofs.Laws.{by-differences}
 use Rattle.joining.specs.Pile.{ownPieces, ownWidth, valueAt}
 use Rattle.joining.specs.Joined.{joining, joinedInto}
 use Rattle.joining.specs.Secret.{secret}
@@ -16,6 +18,7 @@ use Rattle.joining.proofs.PlaceLaws as place
 use Rattle.joining.proofs.SoundLaws as sound
 use Rattle.joining.proofs.PolyLaws as poly
 use Rattle.joining.proofs.OrderLaws as order
+use Rattle.joining.proofs.WrittenLaws as written
 
 pub joins-then : law.JoinsThen
 joins-then = sound.joins-then
@@ -73,3 +76,10 @@ result-writes pile old w e =
 pub refusal-keeps : law.RefusalKeeps
 unfolding joinedInto
 refusal-keeps pile old m a b e = lent.refusal-keeps (joining pile (length old)) m a b (secret pile) old e
+
+pub joiners-agree : law.JoinersAgree
+joiners-agree = written.joiners-agree
+
+pub secret-by-differences : law.SecretByDifferences
+secret-by-differences pile i l h =
+    secret-at (valueAt pile) (ownPieces pile) (ownWidth pile) i l h ∙ sym (by-differences (column (valueAt pile) (ownPieces pile) i))

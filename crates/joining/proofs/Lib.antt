@@ -8,4 +8,6 @@ pub mod SecretLaws
 pub mod SoundLaws
 pub mod PolyLaws
 pub mod OrderLaws
+pub mod WrittenLaws
 pub mod Laws
+pub mod Joiners

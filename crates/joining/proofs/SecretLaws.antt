@@ -6,13 +6,15 @@ use Prim.Native.Nat.{ℕ, _+_, _≤_, _<_}
 use native.Mathlib.Numerals.{add-one}
 use native.Mathlib.Omega.{arith}
 use lib.ListN.{length, set, drop, take}
-use lib.Seq.{take-at}
+use lib.Seq.{take-at, drop-at}
 use Rattle.lists.specs.Run.{run}
 use Rattle.lists.proofs.RunLaws.{run-length, run-end}
 use Rattle.lists.specs.Over.{over}
 use Rattle.lists.proofs.OverLaws.{over-more}
 use Rattle.prime.specs.Prime.{p}
+use Rattle.field.specs.Differences.{firsts}
 use Rattle.field.specs.Secret.{column}
+use Rattle.field.proofs.DifferenceLaws.{firsts-length}
 use Rattle.field.proofs.SecretLaws.{column-length}
 use Rattle.pile.proofs.PileLaws.{word-small}
 use Rattle.joining.specs.Pile.{ownPieces, ownWidth, placeOf, valueAt}
@@ -37,6 +39,16 @@ module _ (v : ℕ → ℕ → ℕ) (k i : ℕ) (old values : List ℕ) (is : val
 
   pub column-counts : length (take k values) ≡ k
   column-counts = ap length column-front ∙ column-length v k i
+
+  -- and what is left where the first numbers of their rows take the column's place
+  pub firsts-over : (new : List ℕ) → new ≡ firsts (take k values) → new ++ drop k values ≡ over (firsts (column v k i)) old
+  unfolding over
+  firsts-over new e =
+      let n : length (firsts (column v k i)) ≡ k = firsts-length k (column v k i) (column-length v k i) in
+      let r : drop k values ≡ drop k old
+      = ap (drop k) is ∙ drop-at (column v k i) (drop (length (column v k i)) old) k (column-length v k i)
+      ∙ ap (λ (m : ℕ). drop m old) (column-length v k i) in
+      rw (n, r) (ap (λ (l : List ℕ). l ++ drop k old) (e ∙ ap firsts column-front))
 
 -- ---- the values of a full pile's pieces
 pub value-below : {pile : List ℕ} → Full pile → (j i : ℕ) → 1 ≤ j → j ≤ ownPieces pile → 1 ≤ i → i ≤ ownWidth pile → valueAt pile j i < p

@@ -7,16 +7,19 @@ use mathlib.Core.Logic.{_≢_}
 use mathlib.Core.List.{List, _++_}
 use lib.ListN.{length, getD, drop}
 use Rattle.answer.specs.declared.Kind.the-variants.{Room, Unread, Header, Mixed}
-use Rattle.answer.specs.Outcome.{done, refused, number}
+use Rattle.answer.specs.declared.Answer.{Answer}
+use Rattle.answer.specs.Outcome.{outcome, done, refused, number}
 use Rattle.lists.specs.Laws.{IsFirst}
 use Rattle.lists.specs.Places.{found}
 use Rattle.prime.specs.Prime.{p, Below}
 use Rattle.field.specs.Poly.{value, One}
+use Rattle.field.specs.Differences.{byDifferences}
+use Rattle.field.specs.Secret.{column}
 use Rattle.block.specs.Deals.{sameDeal}
 use Rattle.block.specs.Layout.{rightAt}
 use Rattle.block.specs.Open.{above, TrueBlock}
 use Rattle.pile.specs.Blocks.{blocks, restFrom, word, dealAt, firstBlock, TrueBlocks, In}
-use Rattle.joining.specs.Pile.{ownDeal, ownPieces, ownWidth, pieceAt, placeOf, valueOf, differIn, present}
+use Rattle.joining.specs.Pile.{ownDeal, ownPieces, ownWidth, pieceAt, placeOf, valueOf, valueAt, differIn, present}
 use Rattle.joining.specs.Checks.{contradictedBy, conflictAt}
 use Rattle.joining.specs.Joined.{joining, joinedInto}
 use Rattle.joining.specs.Secret.{secret}
@@ -125,3 +128,19 @@ ResultWrites = (pile old : List ℕ) (w : ℕ) → joining pile (length old) ≡
 -- SCOPE 6.4: refused, joining leaves what was lent as before.
 abbrev pub RefusalKeeps : Type 0
 RefusalKeeps = (pile old : List ℕ) (m a b : ℕ) → joining pile (length old) ≡ refused m a b → joinedInto pile old ≡ old
+
+-- ---- two joiners
+-- what `join` and `join_by_differences` alike promise of their answer x and of the output a, lent as old: the two clauses of either contract
+pub record JoinPromised (pile old : List ℕ) (x : Answer) (a : List ℕ) : Type 0 where
+  pub says : outcome x ≡ joining pile (length old)
+  pub leaves : a ≡ joinedInto pile old
+
+-- On every pile and every lent output: an answer and an output that the one joiner's promise allows are those that the other's allows.
+abbrev pub JoinersAgree : Type 0
+JoinersAgree = (pile old : List ℕ) (x y : Answer) (a b : List ℕ) → JoinPromised pile old x a → JoinPromised pile old y b → (x ≡ y) × (a ≡ b)
+
+-- And the secret is what differences alone give: for each word, the values of the pieces in a row, the rows of differences under it, their
+-- first numbers added with alternating signs.
+abbrev pub SecretByDifferences : Type 0
+SecretByDifferences = (pile : List ℕ) (i : ℕ) → 1 ≤ i → i ≤ ownWidth pile
+    → getD (secret pile) (i - 1) 0 ≡ byDifferences (column (valueAt pile) (ownPieces pile) i)

@@ -1,4 +1,4 @@
-// The checks of a pile in their order: TORN, LONG, those of its blocks, MIXED, CONFLICT and SHORT. None looks at what it is joined into.
+// The checks of a pile in their order: TORN, LONG, those of its blocks, MIXED, CONFLICT and SHORT; and, for whatever it is joined into, ROOM.
 use answer::Answer;
 use answer::Kind;
 use block::DealWords;
@@ -13,6 +13,7 @@ ghost use Rattle.lists.specs.Places.{those};
 ghost use Rattle.pile.specs.Blocks.{blocks, In, TrueBlocks};
 ghost use Rattle.joining.specs.Pile.{ownDeal, ownWidth, placeOf, differIn};
 ghost use Rattle.joining.specs.Checks.{mixedAt, conflict, wholeLines, pileLines};
+ghost use Rattle.joining.specs.Joined.{joining};
 ghost use Rattle.joining.specs.Inner.{Unmixed, placed};
 
 // The pile's own deal.
@@ -155,4 +156,19 @@ pub fn check_pile(pile: &[u8]) -> Answer
         return answer::refuse(Kind::Short, 0, 0);
     }
     check_whole(pile)
+}
+
+// The answer of joining a pile into an output of so many words: the checks of the pile, then ROOM, else how many words there are.
+pub fn check_join(pile: &[u8], room: usize) -> Answer
+    ensures { λ r. ⌜ outcome r ≡ joining (now (pile .entry)) room ⌝ }
+{
+    if let Answer::Refused(r) = check_pile(pile) {
+        return Answer::Refused(r);
+    }
+    let own = own_deal(pile);
+    let words = own.width as usize;
+    if room < words {
+        return answer::refuse(Kind::Room, words, 0);
+    }
+    Answer::Done(words)
 }

@@ -1,12 +1,15 @@
-// Joining: a pile of card blocks to its secret. The checks are in checks.rt, the secret in secret.rt; the definitions that the contracts
-// cite are in specs/, under the functions' names.
+// Joining: a pile of card blocks to its secret, by one of two joiners with the same checks and the same promise. The checks are in checks.rt,
+// the secret by weights in secret.rt, by differences in differences.rt; the definitions that the contracts cite are in specs/, under the
+// functions' names.
 mod checks;
+mod differences;
 mod secret;
 
 use answer::Answer;
-use answer::Kind;
+use checks::check_join;
 pub use checks::check_pile;
 use checks::own_deal;
+use differences::write_by_differences;
 use secret::write_secret;
 ghost use mathlib.Core.Path.{_≡_};
 ghost use lib.ListN.{length};
@@ -18,16 +21,30 @@ pub fn join(pile: &[u8], out: &mut [u16]) -> Answer
     ensures says { λ r. ⌜ outcome r ≡ joining (now (pile .entry)) (length (now (out .entry))) ⌝ }
     ensures leaves { λ r. ⌜ now (out .exit) ≡ joinedInto (now (pile .entry)) (now (out .entry)) ⌝ }
 {
-    if let Answer::Refused(r) = check_pile(pile) {
-        return Answer::Refused(r);
+    match check_join(pile, out.len()) {
+        Answer::Done(w) => {
+            let own = own_deal(pile);
+            let k = own.pieces as usize;
+            let weights = field::weights(k);
+            write_secret(pile, k, w, &weights, out);
+            Answer::Done(w)
+        }
+        Answer::Refused(r) => Answer::Refused(r),
     }
-    let own = own_deal(pile);
-    let k = own.pieces as usize;
-    let w = own.width as usize;
-    if out.len() < w {
-        return answer::refuse(Kind::Room, w, 0);
+}
+
+// The same by differences alone, for a unit that has no room for the modular inverse.
+pub fn join_by_differences(pile: &[u8], out: &mut [u16]) -> Answer
+    ensures says { λ r. ⌜ outcome r ≡ joining (now (pile .entry)) (length (now (out .entry))) ⌝ }
+    ensures leaves { λ r. ⌜ now (out .exit) ≡ joinedInto (now (pile .entry)) (now (out .entry)) ⌝ }
+{
+    match check_join(pile, out.len()) {
+        Answer::Done(w) => {
+            let own = own_deal(pile);
+            let k = own.pieces as usize;
+            write_by_differences(pile, k, w, out);
+            Answer::Done(w)
+        }
+        Answer::Refused(r) => Answer::Refused(r),
     }
-    let weights = field::weights(k);
-    write_secret(pile, k, w, &weights, out);
-    Answer::Done(w)
 }

@@ -13,7 +13,7 @@ ghost use Rattle.joining.specs.Secret.{secret};
 ghost use Rattle.joining.specs.Inner.{Full};
 
 // Value i of each piece 1 to k over the front of `values`, that of piece j at j - 1.
-fn write_column(pile: &[u8], table: &[usize; 70], k: usize, i: usize, values: &mut [u16])
+pub fn write_column(pile: &[u8], table: &[usize; 70], k: usize, i: usize, values: &mut [u16])
     requires { ⌜ Full (now pile) ⌝ }
     requires { ⌜ now table ≡ run (placeOf (now pile)) 1 70 ⌝ }
     requires { ⌜ k ≡ ownPieces (now pile) ⌝ }

@@ -1,5 +1,5 @@
 // What joining answers where the joining program cannot ask: an output with too little room, and piles past 560 blocks; with the lent words
-// afterwards. It is compared with `stdout`.
+// afterwards; by the first joiner, and then by differences. It is compared with `stdout`.
 use answer::Answer;
 use answer::Refusal;
 
@@ -28,10 +28,18 @@ fn refused(r: Refusal) {
     number(r.b);
 }
 
+// One of the two joiners.
+fn join(by_differences: bool, pile: &[u8], out: &mut [u16]) -> Answer {
+    if by_differences {
+        return joining::join_by_differences(pile, out);
+    }
+    joining::join(pile, out)
+}
+
 // Joins the pile, and prints the answer and the lent words under the case's name.
-fn case(name: &[u8], pile: &[u8], out: &mut [u16]) {
+fn case(by_differences: bool, name: &[u8], pile: &[u8], out: &mut [u16]) {
     io::write_all(1, name);
-    match joining::join(pile, out) {
+    match join(by_differences, pile, out) {
         Answer::Done(w) => {
             io::write_all(1, b" words");
             number(w);
@@ -44,7 +52,7 @@ fn case(name: &[u8], pile: &[u8], out: &mut [u16]) {
 }
 
 // The one card of a deal of the secret 1234, 5678 to one person, with less and with more room than it needs.
-fn rooms() {
+fn rooms(by_differences: bool) {
     let none = [0u16; 0];
     let required = [1u16];
     let secret = [1234u16, 5678];
@@ -54,30 +62,39 @@ fn rooms() {
     let mut one = [9u16];
     let mut two = [9u16, 9];
     let mut three = [9u16, 9, 9];
-    case(b"no room:", &card, &mut no_words);
-    case(b"room for 1:", &card, &mut one);
-    case(b"room for 2:", &card, &mut two);
-    case(b"room for 3:", &card, &mut three);
+    case(by_differences, b"no room:", &card, &mut no_words);
+    case(by_differences, b"room for 1:", &card, &mut one);
+    case(by_differences, b"room for 2:", &card, &mut two);
+    case(by_differences, b"room for 3:", &card, &mut three);
 }
 
 // The first n bytes as a pile.
-fn front(name: &[u8], b: &[u8], n: usize, out: &mut [u16]) {
+fn front(by_differences: bool, name: &[u8], b: &[u8], n: usize, out: &mut [u16]) {
     if n <= b.len() {
-        case(name, &b[0..n], out);
+        case(by_differences, name, &b[0..n], out);
     }
 }
 
 // Blocks of zeros, which no card has: none, 560, one more, and a byte past that.
-fn piles() {
+fn piles(by_differences: bool) {
     let zeros = [0u8; 287233];
     let mut words = [9u16; 2];
-    front(b"no blocks:", &zeros, 0, &mut words);
-    front(b"560 blocks:", &zeros, 286720, &mut words);
-    front(b"561 blocks:", &zeros, 287232, &mut words);
-    front(b"561 blocks and a byte:", &zeros, 287233, &mut words);
+    front(by_differences, b"no blocks:", &zeros, 0, &mut words);
+    front(by_differences, b"560 blocks:", &zeros, 286720, &mut words);
+    front(by_differences, b"561 blocks:", &zeros, 287232, &mut words);
+    front(
+        by_differences,
+        b"561 blocks and a byte:",
+        &zeros,
+        287233,
+        &mut words,
+    );
 }
 
 fn main() {
-    rooms();
-    piles();
+    rooms(false);
+    piles(false);
+    io::write_all(1, b"by differences\n");
+    rooms(true);
+    piles(true);
 }
