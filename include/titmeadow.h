@@ -66,19 +66,20 @@ enum titmeadow_refusal {
     TITMEADOW_MIXED = 18,    /* a block is unlike block 1 in word 2, 4, 5 or 6; a: the first such block */
     TITMEADOW_CONFLICT = 19, /* a block has an earlier one's piece, and other values; a: the first such block, b: the first such earlier one */
     TITMEADOW_SHORT = 20,    /* of the pieces 1 to k not all are there; a: how many different ones are, b: k */
-    TITMEADOW_TEXT = 21      /* the text of a policy cannot be read (the listing program only); a: the first bad line */
+    TITMEADOW_TEXT = 21,     /* the text of a policy cannot be read (the listing program only); a: the first bad line */
+    TITMEADOW_LONE = 22      /* a required set has a single member; a: the first such set */
 };
 
 /* Planning: the result is k, the number of pieces. A set is a number in which the bit of person i is 2^(i-1).
  * groups has 70 places: the group of piece j, those who lack it, goes to groups[j - 1]; the first k are written.
- * Refuses 1 to 7. */
+ * Refuses 1 to 5, 22, 6, 7, in this order. */
 titmeadow_answer titmeadow_plan(size_t people, const uint16_t *required, size_t required_count, const uint16_t *forbidden,
                                 size_t forbidden_count, uint16_t groups[TITMEADOW_PLACES(TITMEADOW_PIECES_MOST)]);
 
 /* Dealing one holder's card: the result is its number of blocks, of 512 bytes each, which are written to the front of card; a
  * holder of no piece has a card without a block. The secret has w = words words, 1 to 16, and random has w(k - 1) words, not one more
  * or less, even and never used again; each of both is 0 to 32748. Every card of a deal is made from the same policy, deal number,
- * secret and random. room counts bytes. Refuses 1 to 12.
+ * secret and random. room counts bytes. Refuses 1 to 5, 22, 6 to 12, in this order.
  * A card has at most 35 blocks: the groups of its pieces are of the other seven people, none inside another, and by Sperner's theorem
  * there are no more such. That is not proved here; proved is that k is at most 70, so that 70 blocks are room for every card. A card
  * that does not fit is refused. */

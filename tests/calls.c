@@ -13,8 +13,8 @@ static const struct {
     const char *name;
     size_t gives[NUMBERS];
 } calls[CALLS] = {
-    [PLAN] = {"titmeadow_plan", {1, 2, 3, 4, 5, 6}},
-    [DEAL] = {"titmeadow_deal", {1, 2, 3, 4, 5, 6, 8, 9, 10, 11, 12}},
+    [PLAN] = {"titmeadow_plan", {1, 2, 3, 4, 5, 6, 22}},
+    [DEAL] = {"titmeadow_deal", {1, 2, 3, 4, 5, 6, 8, 9, 10, 11, 12, 22}},
     [JOIN] = {"titmeadow_join", {12, 13, 14, 15, 16, 17, 18, 19, 20}},
     [JOIN_BY_DIFFERENCES] = {"titmeadow_join_by_differences", {12, 13, 14, 15, 16, 17, 18, 19, 20}},
     [OPEN] = {"titmeadow_open", {13, 15, 16, 17}},

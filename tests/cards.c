@@ -10,7 +10,7 @@ struct policy {
     const uint16_t *forbidden;
     size_t forbidden_count;
 };
-static const struct policy p1 = {4, LIST(3, 6, 12), LIST(9)}, p2 = {1, LIST(1), NONE}, p3 = {3, LIST(3), NONE}, both = {2, LIST(3), NONE};
+static const struct policy p1 = {4, LIST(3, 6, 12), LIST(9)}, p3 = {3, LIST(3), NONE}, both = {2, LIST(3), NONE};
 static uint16_t pairs[TITMEADOW_SETS_MOST + 1], ones[TITMEADOW_SETS_MOST + 1]; /* {1, 2}, and {1}, over and over */
 static uint16_t fives[56], fours[TITMEADOW_PIECES_MOST];                       /* the sets of five, and of four, of eight people */
 static const struct policy any_five = {TITMEADOW_PEOPLE_MOST, fives, COUNT(fives), NONE};
@@ -31,6 +31,8 @@ static const struct {
     {"nobody required", {4, NONE, NONE}, {TITMEADOW_NOBODY, 0, 0}},
     {"nobody required, and one set forbidden", {4, NONE, LIST(9)}, {TITMEADOW_NOBODY, 0, 0}},
     {"the empty set required, and {1} clashes", {4, LIST(1, 0, 0), LIST(1)}, {TITMEADOW_OPEN, 2, 0}},
+    {"P2: one person, required alone", {1, LIST(1), NONE}, {TITMEADOW_LONE, 1, 0}},
+    {"{3} and {1} required, and {1, 2} clashes", {4, LIST(3, 4, 1), LIST(3)}, {TITMEADOW_LONE, 2, 0}},
     /* {1, 2} lies in no forbidden set; {2, 3} lies in the third, {2, 3, 4}, and the fourth */
     {"a clash", {4, LIST(3, 6, 12), LIST(9, 1, 14, 6)}, {TITMEADOW_CLASH, 2, 3}},
 };
@@ -42,7 +44,7 @@ static const struct {
     size_t count;
 } good_policies[] = {
     {"P1", {4, LIST(3, 6, 12), LIST(9)}, LIST(5, 9, 10)},
-    {"P2", {1, LIST(1), NONE}, LIST(0)},
+    {"two people, both required", {2, LIST(3), NONE}, LIST(1, 2)},
     {"P3", {3, LIST(3), NONE}, LIST(5, 6)},
     {"256 sets in each list", {2, pairs, TITMEADOW_SETS_MOST, ones, TITMEADOW_SETS_MOST}, LIST(1, 2)},
     {"any five of eight", {TITMEADOW_PEOPLE_MOST, fives, COUNT(fives), NONE}, fours, COUNT(fours)},
@@ -113,8 +115,9 @@ static void dealing(void) {
     memcpy(card[1], three[1], BLOCK);
     is(DEAL, "two blocks, and a byte to spare", deal(&p1, 7, 2, LIST(1234), LIST(5, 7), 2 * BLOCK + 1), done(2), card, 2 * BLOCK);
     is(DEAL, "a holder of no piece", deal(&p3, 7, 3, LIST(1234), LIST(5), 0), done(0), NONE);
-    put_block(card[0], 7, 1, 1, 1, 1, 1, LISTED(1234));
-    is(DEAL, "one piece, so no randomness", deal(&p2, 7, 1, LIST(1234), NONE, BLOCK), done(1), card, BLOCK);
+    /* of two people 1 lacks piece 1 and has piece 2, which is 1234 + 2 * 5 */
+    put_block(card[0], 7, 1, 2, 2, 1, 2, LISTED(1244));
+    is(DEAL, "one of two people", deal(&both, 7, 1, LIST(1234), LIST(5), BLOCK), done(1), card, BLOCK);
 
     /* 32748 is -1 mod p: with coefficients of 32748, piece 2 of that word is -1 - 2, so 32746. Holder 1 lacks piece 1 and has piece 2. */
     uint16_t values[TITMEADOW_SECRET_MOST];

@@ -2,7 +2,8 @@
 use crate::numbers::Numbers;
 use crate::reference::{bytes_of, check, deal, plan, words_of, Deal, BLOCK};
 
-/// A policy: how many people, the required sets, the forbidden sets. Most are accepted; some have one or more faults.
+/// A policy: how many people, the required sets, the forbidden sets. About half are accepted; others have one or more faults. Required sets
+/// of one member come as they will in one policy of four, and rarely in the others.
 pub fn policy(n: &mut Numbers) -> (usize, Vec<u16>, Vec<u16>) {
     let people = match n.below(40) {
         0 => 0,
@@ -26,6 +27,17 @@ pub fn policy(n: &mut Numbers) -> (usize, Vec<u16>, Vec<u16>) {
             if n.once_in(4) { set } else { set & n.below(all as usize) as u16 }
         })
         .collect();
+    if people > 1 && !n.once_in(4) {
+        for set in &mut required {
+            while set.count_ones() == 1 {
+                *set |= 1 << n.below(people.min(8));
+            }
+        }
+        if n.once_in(25) && !required.is_empty() {
+            let at = n.below(required.len());
+            required[at] = 1 << n.below(people.min(8));
+        }
+    }
     if n.once_in(25) && !required.is_empty() {
         let at = n.below(required.len());
         required[at] = if n.once_in(2) { 0 } else { n.next() as u16 };

@@ -46,6 +46,10 @@ pub fn plan(people: usize, required: &[u16], forbidden: &[u16]) -> Result<Vec<u1
     if let Some(at) = required.iter().position(|set| *set == 0) {
         return refuse(5, at + 1, 0);
     }
+    let members = |set: u16| (1..=people).filter(|person| set >> (person - 1) & 1 == 1).count();
+    if let Some(at) = required.iter().position(|set| members(*set) == 1) {
+        return refuse(22, at + 1, 0);
+    }
     for (r, need) in required.iter().enumerate() {
         for (f, bar) in forbidden.iter().enumerate() {
             if need & !bar == 0 {

@@ -1,7 +1,7 @@
 //! The edges of SCOPE's ranges, on the library: 560 and 561 blocks, an output too short by one word and by one byte, slots and words
 //! of 32748 and 32749. What is expected is written here, from SCOPE.
 use bench::inputs::{blocks, card, with_word};
-use bench::reference::{Deal, Refusal, BLOCK};
+use bench::reference::{block_words, bytes_of, Deal, Refusal, BLOCK};
 use bench::unit;
 
 /// Both joiners: every case of joining goes through each.
@@ -103,6 +103,28 @@ fn words_of_32748_and_32749() {
     assert_eq!(with(32748, 32748), Ok(1));
     assert_eq!(with(32749, 7), refused(10, 1, 0));
     assert_eq!(with(1234, 32749), refused(11, 2, 0));
+}
+
+#[test]
+fn a_set_of_one_and_of_two() {
+    let mut groups = [9; 70];
+    assert_eq!(unit::plan(2, &[3, 2], &[3], &mut groups), refused(22, 2, 0));
+    assert_eq!(groups, [9; 70]);
+    assert_eq!(unit::plan(2, &[3, 3], &[2], &mut groups), Ok(2));
+    assert_eq!(groups[..3], [1, 2, 9]);
+}
+
+/// No deal has one piece any more, but a card of such a deal, made earlier, is a true one and joins as it did.
+#[test]
+fn a_card_of_one_piece() {
+    let d = Deal { people: 1, required: vec![1], forbidden: vec![], number: 7, secret: vec![1234, 5678], random: vec![] };
+    let mut out = [9; BLOCK];
+    assert_eq!(unit::deal(&d, 1, &mut out), refused(22, 1, 0));
+    assert_eq!(out, [9; BLOCK]);
+    let card = bytes_of(&block_words([1987, 7, 1, 1, 1, 2, 1], &d.secret));
+    let mut out = [9; 3];
+    assert_eq!(unit::join(&card, &mut out), Ok(2));
+    assert_eq!(out, [1234, 5678, 9]);
 }
 
 #[test]

@@ -22,12 +22,26 @@ fn p1_listing() {
 
 #[test]
 fn p2_to_p6() {
-    assert_eq!(plan(1, &[1], &[]), Ok(vec![0]));
+    assert_eq!(plan(1, &[1], &[]), Err(Refusal { number: 22, a: 1, b: 0 }));
     assert_eq!(plan(3, &[3], &[]), Ok(vec![5, 6]));
     assert_eq!(plan(3, &[3, 5, 6], &[]), Ok(vec![1, 2, 4]));
     assert_eq!(held(&[1, 2, 4], 1), vec![2, 3]);
     assert_eq!(plan(2, &[3], &[3]), Err(Refusal { number: 6, a: 1, b: 1 }));
     assert!(plan(2, &[3], &[1]).is_ok());
+}
+
+#[test]
+fn sets_of_one_member() {
+    let refused = |number, a, b| Err(Refusal { number, a, b });
+    // the first of two; after OPEN; before CLASH; a forbidden one is no fault
+    assert_eq!(plan(3, &[3, 4, 1], &[]), refused(22, 2, 0));
+    assert_eq!(plan(3, &[4, 0], &[]), refused(5, 2, 0));
+    assert_eq!(plan(3, &[3, 4], &[3]), refused(22, 2, 0));
+    assert_eq!(plan(3, &[3, 5], &[3]), refused(6, 1, 1));
+    assert_eq!(plan(3, &[3], &[1, 2, 4]), Ok(vec![5, 6]));
+    for person in 1..=8 {
+        assert_eq!(plan(8, &[255, 1 << (person - 1)], &[]), refused(22, 2, 0));
+    }
 }
 
 #[test]

@@ -40,7 +40,7 @@ fn policies() {
         assert_eq!(ours, theirs.map(|groups| groups.len()), "{people} {required:?} {forbidden:?}");
         assert_eq!(groups, expected, "{people} {required:?} {forbidden:?}");
     }
-    met.shows(&[0, 1, 2, 3, 4, 5, 6]);
+    met.shows(&[0, 1, 2, 3, 4, 5, 6, 22]);
 }
 
 /// One argument made bad, or two.
@@ -95,7 +95,7 @@ fn deals() {
         assert_eq!(said, expected, "{d:?} {holder} {room}");
         assert!(ours == theirs, "the lent card differs: {d:?} {holder} {room}");
     }
-    met.shows(&[0, 1, 2, 3, 4, 5, 6, 8, 9, 10, 11, 12]);
+    met.shows(&[0, 1, 2, 3, 4, 5, 6, 8, 9, 10, 11, 12, 22]);
 }
 
 #[test]
@@ -126,4 +126,22 @@ fn piles() {
         }
     }
     met.shows(&[0, 12, 13, 14, 15, 16, 17, 18, 19, 20]);
+}
+
+/// Nobody opens alone: each person's card, twice and shuffled, of whatever deal is accepted.
+#[test]
+fn nobody_alone() {
+    let mut n = Numbers::new(4);
+    for _ in 0..2_000 {
+        let d = inputs::good_deal(&mut n);
+        for person in 0..d.people {
+            let mut pile = inputs::blocks(&d, 1 << person);
+            pile.extend(pile.clone());
+            n.shuffle(&mut pile);
+            let mut out = [9; 16];
+            let said = unit::join(&pile.concat(), &mut out);
+            assert!(matches!(said, Err(Refusal { number: 20, .. })), "{d:?} {person}: {said:?}");
+            assert_eq!(out, [9; 16]);
+        }
+    }
 }

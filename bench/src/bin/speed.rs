@@ -1,7 +1,7 @@
 //! Benchmarks: the proved library against the independent Rust, in one run, both built for release; then its two joiners against each other.
 //! Median of many rounds; the two take turns within a round. Buffers are not cleared between calls.
 use bench::inputs;
-use bench::reference::{self, Deal, BLOCK};
+use bench::reference::{self, block_words, bytes_of, Deal, BLOCK};
 use bench::unit;
 use std::hint::black_box;
 use std::time::Instant;
@@ -40,6 +40,11 @@ fn compare(name: &str, mut ours: impl FnMut(), mut theirs: impl FnMut()) {
     println!("| {name} | {:.2} | {:.2} | {:.2} | {low:.2} to {high:.2} |", a * 1e6, b * 1e6, a / b);
 }
 
+/// 16 words.
+fn secret() -> Vec<u16> {
+    (0..16).map(|i| i * 2047 % 32749).collect()
+}
+
 /// A deal of 16 words, by a policy that any so many of so many people open.
 fn threshold(people: usize, least: u32) -> Deal {
     let required: Vec<u16> = (0..1u16 << people).filter(|set| set.count_ones() == least).collect();
@@ -49,7 +54,7 @@ fn threshold(people: usize, least: u32) -> Deal {
         required,
         forbidden: Vec::new(),
         number: 7,
-        secret: (0..16).map(|i| i * 2047 % 32749).collect(),
+        secret: secret(),
         random: (0..16 * (k - 1)).map(|i| (i * 7919 % 32749) as u16).collect(),
     }
 }
@@ -139,7 +144,8 @@ fn main() {
     for blocks in [70, 140, 280] {
         join(&format!("joining {blocks} blocks of 70 pieces"), &many[..blocks * BLOCK]);
     }
-    for (people, least) in [(1, 1), (3, 2), (4, 3), (5, 3), (6, 4), (7, 4)] {
+    join("joining 1 blocks of 1 pieces", &bytes_of(&block_words([1987, 7, 1, 1, 1, 16, 1], &secret())));
+    for (people, least) in [(3, 2), (4, 3), (5, 3), (6, 4), (7, 4)] {
         let d = threshold(people, least);
         let pile = pieces(&d).concat();
         join(&format!("joining {} blocks of {0} pieces", pile.len() / BLOCK), &pile);

@@ -26,6 +26,7 @@ pub enum Kind {
     Conflict,
     Short,
     Text,
+    Lone,
 }
 
 // A refusal: its kind and its two places, each 0 where SCOPE 6.2 names none.
@@ -67,6 +68,7 @@ pub fn number_of(k: Kind) -> usize
         Kind::Conflict => 19,
         Kind::Short => 20,
         Kind::Text => 21,
+        Kind::Lone => 22,
     }
 }
 

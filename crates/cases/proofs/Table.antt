@@ -10,10 +10,10 @@ use Rattle.lists.specs.Run.{run}
 use Rattle.field.specs.Joined.{joined, joinedIn, diffs}
 use Rattle.field.specs.Differences.{rowsIn, rows, firsts, withPlus, withMinus, alternating, byDifferences}
 use Rattle.prime.specs.Prime.{minus}
-use Rattle.planning.specs.Sets.{member, inside, stranger, marks}
+use Rattle.planning.specs.Sets.{member, inside, stranger, memberCount, oneMember, marks}
 use Rattle.lists.specs.Some.{each, some}
 use Rattle.planning.specs.Groups.{authorised, tight, maximalBy, groupsBy, holds, held, rowsOf}
-use Rattle.planning.specs.Planned.{people, long, strangers, nobody, opens, clashPlace, clash, wide, listLines, planLines, planned, plannedRows}
+use Rattle.planning.specs.Planned.{people, long, strangers, nobody, opens, lone, clashPlace, clash, wide, listLines, planLines, planned, plannedRows}
 use Rattle.dealing.proofs.Laws as dealing
 use Rattle.joining.proofs.Laws as joining
 use Rattle.cases.specs.Plain.{set}
@@ -22,11 +22,11 @@ use Rattle.cases.proofs.Listing.{prints}
 use Rattle.cases.proofs.Bytes.{the-block, dealt, short-two}
 
 pub table : Table
-unfolding planned plannedRows rowsOf marks planLines listLines people long strangers nobody opens clashPlace clash wide firstFail firstFrom firstPlace those member each inside stranger some authorised tight maximalBy groupsBy holds held set run value joined joinedIn diffs rowsIn rows firsts withPlus withMinus alternating byDifferences minus
+unfolding planned plannedRows rowsOf marks planLines listLines people long strangers nobody opens lone clashPlace clash wide firstFail firstFrom firstPlace those member each inside stranger memberCount oneMember some authorised tight maximalBy groupsBy holds held set run value joined joinedIn diffs rowsIn rows firsts withPlus withMinus alternating byDifferences minus
 table =
     record {
       p1 = (record { answer = refl; groups-are = refl; rows = refl }, refl, prints);
-      p2 = (record { answer = refl; groups-are = refl; rows = refl }, refl);
+      p2 = refl;
       p3 = (record { answer = refl; groups-are = refl; rows = refl }, refl);
       p4 = (record { answer = refl; groups-are = refl; rows = refl }, refl);
       p5 = refl;

@@ -4,7 +4,7 @@ use mathlib.Core.Path.{_≡_}
 use mathlib.Core.List.{List, [], _∷_, _++_, map}
 use Prim.Native.Nat.{ℕ, _≤_}
 use lib.ListN.{length, drop, replicate}
-use Rattle.answer.specs.declared.Kind.the-variants.{Clash, Short}
+use Rattle.answer.specs.declared.Kind.the-variants.{Lone, Clash, Short}
 use Rattle.answer.specs.Outcome.{done, refused, number}
 use Rattle.field.specs.Poly.{piece}
 use Rattle.lists.specs.Run.{run}
@@ -63,9 +63,9 @@ pub record Table : Type 0 where
   pub p1 : Accepted policy1 (set (1 ∷ 3 ∷ []) ∷ set (1 ∷ 4 ∷ []) ∷ set (2 ∷ 4 ∷ []) ∷ [])
       × (map (held 4 (policy1 .required)) (1 ∷ 2 ∷ 3 ∷ 4 ∷ []) ≡ (3 ∷ []) ∷ (1 ∷ 2 ∷ []) ∷ (2 ∷ 3 ∷ []) ∷ (1 ∷ []) ∷ [])
       × (listed text1 ≡ printed1)
-  -- one person; {1} is required: k = 1, nobody lacks the piece, and person 1 has it
-  pub p2 : Accepted (policyOf 1 (set (1 ∷ []) ∷ []) []) (set [] ∷ [])
-      × (held 1 (set (1 ∷ []) ∷ []) 1 ≡ 1 ∷ [])
+  -- one person; {1} is required: LONE with a = 1. The base accepted it, with k = 1, a piece that nobody lacks and that person 1 has;
+  -- since request Three two people at least open, and what document 01 says of this case no longer holds
+  pub p2 : planned (policyOf 1 (set (1 ∷ []) ∷ []) []) ≡ refused (number Lone) 1 0
   -- three people; {1, 2} is required: the groups are {1, 3} and {2, 3}, and person 3 has no piece
   pub p3 : Accepted (policyOf 3 (set (1 ∷ 2 ∷ []) ∷ []) []) (set (1 ∷ 3 ∷ []) ∷ set (2 ∷ 3 ∷ []) ∷ [])
       × (held 3 (set (1 ∷ 2 ∷ []) ∷ []) 3 ≡ [])

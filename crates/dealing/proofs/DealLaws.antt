@@ -60,7 +60,7 @@ module _ (d : Deal) (e : planned (d .policy) ≡ done (dealPieces d)) where
   pub plan-few : (d .policy .people ≤ 8) × (1 ≤ dealPieces d) × (dealPieces d ≤ 70)
   plan-few =
       let k = some-piece (d .policy) (dealPieces d) e in
-      (accepted-listed (d .policy) (dealPieces d) e .few, k .1, k .2)
+      (accepted-listed (d .policy) (dealPieces d) e .few, omega (arith, k .1), k .2)
 
   module _ (holder : ℕ) where
     abbrev pieces : List ℕ

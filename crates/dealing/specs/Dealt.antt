@@ -1,4 +1,4 @@
--- What dealing answers and writes: SCOPE 6, refusals 1 to 12, and the card over the front of the lent output.
+-- What dealing answers and writes: SCOPE 6, refusals 1 to 12 and 22, and the card over the front of the lent output.
 -- Assumes nothing.
 use Prim.Native.Nat.{ℕ, _-_, _*_}
 use mathlib.Core.Path.{_≡_}
@@ -63,7 +63,7 @@ cardLines asked each secret random blocks room = inputLines asked each secret ra
 unfoldable pub blockCount : Deal → ℕ → ℕ
 blockCount d holder = length (heldBy d holder)
 
--- 1 to 12, in their order: for one holder's card into a lent output of so many bytes
+-- planning's, then 8 to 12, in their order: for one holder's card into a lent output of so many bytes
 unfoldable pub dealLines : Deal → ℕ → ℕ → List Line
 dealLines d holder room =
     planLines (d .policy) ++ cardLines (askedOf d holder) (dealPieces d - 1) (d .secret) (d .random) (blockCount d holder) room

@@ -1,4 +1,4 @@
-// Dealing: one holder's card (SCOPE 3 and 4; refusals 1 to 12).
+// Dealing: one holder's card (SCOPE 3 and 4; refusals 1 to 12 and 22).
 // The definitions that the contracts cite are in specs/, in SCOPE's terms and order.
 mod card;
 mod checks;
@@ -46,7 +46,7 @@ fn deal_planned(
     }
 }
 
-// One holder's card: refusals 1 to 12, or how many blocks it has, written over the front of what is lent.
+// One holder's card: a refusal, 1 to 12 or 22, or how many blocks it has, written over the front of what is lent.
 pub fn deal(
     people: usize,
     required: &[u16],

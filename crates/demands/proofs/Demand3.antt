@@ -11,6 +11,7 @@ use Rattle.joining.specs.Joined.{joining}
 use Rattle.joining.proofs.Laws.{joins-then, result-writes, refusal-keeps}
 use Rattle.demands.specs.Group.{gathered}
 use Rattle.demands.specs.Demand3 as demand
+use Rattle.demands.proofs.AloneLaws.{alone-lacks}
 use Rattle.demands.proofs.ReadLaws.{reads}
 use Rattle.demands.proofs.AnswerLaws as answer
 use Rattle.demands.proofs.HideLaws as hide
@@ -30,6 +31,9 @@ short d made g group n pile w out =
     let e = answer.short d f g group pile (reads d f g pile w) n (length out) in
     let q = answer.short-refuses (length (gathered d g)) (dealPieces d) in
     (e, refusal-keeps pile out 20 (q .0) (q .1) (e ∙ q .2))
+
+pub nobody-alone : demand.NobodyAlone
+nobody-alone d made g group one = short d made g group (alone-lacks d made g one)
 
 pub hides : demand.Hides
 hides = hide.hidden

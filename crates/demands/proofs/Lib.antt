@@ -2,6 +2,7 @@ pub mod LineLaws
 pub mod UnreadLaws
 pub mod Demand1
 pub mod GroupLaws
+pub mod AloneLaws
 pub mod BlockLaws
 pub mod PieceLaws
 pub mod CardLaws

@@ -17,7 +17,7 @@ use Rattle.answer.specs.Laws.{Passed}
 use Rattle.prime.specs.Prime.{Below}
 use Rattle.planning.specs.Groups.{groups, pieceCount}
 use Rattle.planning.specs.Policy.{Policy}
-use Rattle.planning.specs.Planned.{people, long, strangers, nobody, opens, clash, wide, planLines, planned}
+use Rattle.planning.specs.Planned.{people, long, strangers, nobody, opens, lone, clash, wide, planLines, planned}
 use Rattle.block.specs.Layout.{frontWords}
 use Rattle.block.specs.Open.{above, torn, unread, check, header, blockLines, opening, TrueBlock}
 use Rattle.block.specs.Laws.{Refusable}
@@ -68,8 +68,8 @@ abbrev pub OpenEnds : Type 0
 OpenEnds = (pile : List ℕ) → Ends (openLines pile) (frontWords pile) (opening pile)
 
 -- ---- the order of SCOPE 6.3
--- Planning looks at the number of people, at both lists' lengths, then at their sets, the required list first each time; then at the two
--- lists together, and last at how many groups there are.
+-- Planning looks at the number of people, at both lists' lengths, then at their sets, the required list first each time; then at each
+-- required set for want of members, none and one alone; then at the two lists together, and last at how many groups there are.
 abbrev pub PlanOrder : Type 0
 PlanOrder = (p : Policy) → planLines p
     ≡ people (p .people)
@@ -77,6 +77,7 @@ PlanOrder = (p : Policy) → planLines p
     ∷ strangers (p .people) 1 (p .required) ∷ strangers (p .people) 2 (p .forbidden)
     ∷ nobody (p .required)
     ∷ opens (p .required)
+    ∷ lone (p .required)
     ∷ clash (p .required) (p .forbidden)
     ∷ wide (groups (p .people) (p .required))
     ∷ []

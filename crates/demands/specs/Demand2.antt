@@ -80,7 +80,7 @@ EveryByte = (d : Deal) (holder : ℕ) (out : List ℕ) (blocks : ℕ) → dealin
     × ((a : ℕ) → 1 ≤ a → a ≤ blocks → CardBlock d holder (at (heldBy d holder) a) (drop (512 * (a - 1)) (card d holder)))
     × (dealtInto d holder out ≡ card d holder ++ drop (512 * blocks) out)
 
--- ---- CLASH: let refusals 1 to 5 pass; then it is the answer exactly if there is no family of groups with SCOPE 2's three properties
+-- ---- CLASH: let refusals 1 to 5 and 22 pass; then it is the answer exactly if there is no family of groups with SCOPE 2's three properties
 -- `Clashes` is that planning answers CLASH, at some two places, and `Suits` that a family has those properties. Where CLASH is given, none
 -- at all has them; where it is not, one has, and it can be computed.
 abbrev pub ClashExactly : Type 1

@@ -12,7 +12,7 @@ use Rattle.lists.specs.Some.{_∈_}
 use Rattle.dealing.specs.Deal.{Deal, again, dealPieces, card}
 use Rattle.dealing.specs.Dealt.{Made, dealing, dealtInto}
 use Rattle.joining.specs.Joined.{joining, joinedInto}
-use Rattle.demands.specs.Group.{Group, Contains, Member, WholeCards, cards, members, gathered}
+use Rattle.demands.specs.Group.{Group, Contains, Member, AtMostOne, WholeCards, cards, members, gathered}
 
 -- If the group is authorised, the pile joins to the dealt secret, where there is room for it: the answer is w, and the secret stands in the
 -- first w words of the lent output, whose rest is as it was.
@@ -31,6 +31,14 @@ shortOf (suc c) k = refused 20 (suc c) k
 -- If not, it is SHORT, with how many different pieces the group holds, and k; whatever the room. The lent output is as it was.
 abbrev pub Short : Type 0
 Short = (d : Deal) → Made d → (g : ℕ) → Group d g → ¬ Contains d g
+    → (pile : List ℕ) → WholeCards d g pile
+    → (out : List ℕ)
+    → (joining pile (length out) ≡ shortOf (length (gathered d g)) (dealPieces d))
+    × (joinedInto pile out ≡ out)
+
+-- Nobody opens alone: the cards of a group of one person at most, whoever that is, are SHORT, whatever the deal's policy.
+abbrev pub NobodyAlone : Type 0
+NobodyAlone = (d : Deal) → Made d → (g : ℕ) → Group d g → AtMostOne d g
     → (pile : List ℕ) → WholeCards d g pile
     → (out : List ℕ)
     → (joining pile (length out) ≡ shortOf (length (gathered d g)) (dealPieces d))

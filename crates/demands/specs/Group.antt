@@ -28,6 +28,10 @@ pub record Member (d : Deal) (g i : ℕ) : Type 0 where
   pub most : i ≤ d .policy .people
   pub among : member i g ≡ true
 
+-- the group is of one person at most: any two of its members are the same
+abbrev pub AtMostOne : Deal → ℕ → Type 0
+AtMostOne d g = (i j : ℕ) → Member d g i → Member d g j → i ≡ j
+
 -- These blocks are the whole cards of some members, whatever the blocks of each holder's card are: each is a block of some member's card,
 -- and each block of each member's card is one of them. They may stand in any order, and repeat. (The blocks, and not only the cards.)
 pub record CardsOf (blocksOf : ℕ → List (List ℕ)) (member : ℕ → Type 0) (blocks : List (List ℕ)) : Type 0 where

@@ -10,7 +10,7 @@ use Rattle.print.specs.Lines.{refusedLine}
 use Rattle.policy.specs.Policy.{readPolicy}
 use Rattle.listing.specs.Listing.{listed}
 
--- TEXT speaks before 1 to 7: for a text that is not read, the line of that refusal is printed, whatever sets its lines name.
+-- TEXT speaks before planning's refusals: for a text that is not read, the line of that refusal is printed, whatever sets its lines name.
 abbrev pub TextFirst : Type 0
 TextFirst = (text : List ℕ) (m a b : ℕ) → readPolicy text ≡ refused m a b → listed text ≡ refusedLine m a b
 

@@ -73,7 +73,7 @@ answered (refused m a b) lines = refusedLine m a b
 unfoldable pub listedPlan : Policy → List ℕ
 listedPlan p = answered (planned p) (listing (p .people) (p .required))
 
--- SCOPE 7.1: TEXT is looked for before the refusals 1 to 7
+-- SCOPE 7.1: TEXT is looked for before planning's refusals
 abbrev pub listedPolicy : Outcome Policy → List ℕ
 listedPolicy (done p) = listedPlan p
 listedPolicy (refused m a b) = refusedLine m a b

@@ -3,7 +3,9 @@
 use mathlib.Core.Path.{_≡_, sym, ap, _∙_}
 use Prim.Native.Nat.{ℕ, _≤_}
 use native.Mathlib.Omega.{arith}
+use lib.ListN.{getD}
 use borrow.Author.Tests.{ltb-false}
+use Rattle.lists.proofs.ThoseLaws.{at-in}
 use Rattle.answer.specs.Outcome.{Outcome, done, number}
 use Rattle.answer.specs.Laws.{Passed}
 use Rattle.answer.proofs.CheckLaws.{passed, passed-append, done-passed}
@@ -11,7 +13,7 @@ use Rattle.planning.specs.Groups.{groups, pieceCount, rowsOf}
 use Rattle.planning.specs.Policy.{Policy, policyOf}
 use Rattle.planning.specs.Planned.{wide, listLines, planLines, planned, rowsFor, plannedRows}
 use Rattle.planning.specs.Laws.{AcceptedListed, SomePiece, ForbiddenFree, RowsMean, RefusedRows}
-use Rattle.planning.proofs.HoldingLaws.{some-piece}
+use Rattle.planning.proofs.HoldingLaws.{some-piece, two-pieces}
 use Rattle.planning.proofs.ListedLaws.{listed}
 use Rattle.planning.proofs.PlannedLaws.{end}
 use Rattle.planning.proofs.RowLaws.{row-marks, row-past, no-marks}
@@ -36,7 +38,9 @@ some-pieces p k e =
     let r = accepted p k e in
     let l = accepted-listed p k e in
     let few : pieceCount (p .people) (p .required) ≤ 70 = ltb-false _ _ (passed (passed (passed-append (listLines p) (r .0) .1) .1) .0) in
-    (sym (r .1), omega (arith, some-piece (p .people) (p .required) (l .few) (l .known-required) (l .none-empty)), omega arith)
+    let one = some-piece (p .people) (p .required) (l .few) (l .known-required) (l .none-empty) in
+    let two = two-pieces (p .people) (p .required) (l .few) (l .known-required) (l .none-alone) (getD (p .required) 0 0) (at-in 0 (p .required) 0 (l .some-required)) one in
+    (sym (r .1), omega arith, omega arith)
 
 -- ---- rows
 accepted-rows : (p : Policy) (k : ℕ) → planned p ≡ done k

@@ -16,7 +16,7 @@ use Rattle.answer.proofs.WhichLaws.{Gives, only-one, place-is}
 use Rattle.planning.specs.Sets.{inside}
 use Rattle.planning.specs.Groups.{authorised, groups, pieceCount}
 use Rattle.planning.specs.Policy.{Policy}
-use Rattle.planning.specs.Planned.{people, long, strangers, nobody, opens, aroundPlace, clashPlace, clash, wide, listLines, planLines, planned}
+use Rattle.planning.specs.Planned.{people, long, strangers, nobody, opens, lone, aroundPlace, clashPlace, clash, wide, listLines, planLines, planned}
 use Rattle.planning.specs.Laws.{Listed, Suits, Clashes, ClashFamilies, ClashPlaces}
 use Rattle.lists.proofs.Truth.{isn't, surely}
 use Rattle.lists.proofs.SomeLaws.{some-place}
@@ -33,12 +33,12 @@ module _ (p : Policy) where
   -- the answer is CLASH: its line is given, with its places
   clash-speaks : (a b : ℕ) → planned p ≡ refused (number Clash) a b
       → Passed (listLines p) × Gives (clash (p .required) (p .forbidden)) (number Clash) a b
-  unfolding planned planLines listLines people long strangers nobody opens clash wide some
+  unfolding planned planLines listLines people long strangers nobody opens lone clash wide some
   clash-speaks a b e =
       only-one (number Clash) (listLines p) (clash (p .required) (p .forbidden)) (wide (groups (p .people) (p .required)) ∷ [])
       (pieceCount (p .people) (p .required)) a b e refl refl
 
-  -- past refusals 1 to 5
+  -- past refusals 1 to 5 and 22
   past-lists : Passed (listLines p) → planned p ≡ firstFail (afterLists p) (end p)
   unfolding planned planLines
   past-lists h = append-lines (listLines p) (afterLists p) (end p) ∙ passed-done (listLines p) (firstFail (afterLists p) (end p)) h

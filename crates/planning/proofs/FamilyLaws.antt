@@ -1,4 +1,4 @@
--- The clash rule and families of groups (000, Theorem 2), where refusals 1 to 5 pass.
+-- The clash rule and families of groups (000, Theorem 2), where refusals 1 to 5 and 22 pass.
 -- Assumes nothing.
 use mathlib.Core.Path.{_≡_, sym, _∙_}
 use mathlib.Core.Bool.{true, false}

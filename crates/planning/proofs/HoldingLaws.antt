@@ -7,14 +7,16 @@ use mathlib.Core.Logic.{_↔_, ⊎-elim}
 use Prim.Native.Nat.{ℕ, zero, suc, _+_, _-_, _^_, _≤_, _<_, zero-le}
 use native.Mathlib.Omega.{arith}
 use lib.ListN.{getD}
+use native.Mathlib.Nat.{eq-or-lt-of-le}
 use lib.Pow.{pow-pos}
 use Rattle.lists.proofs.ThoseLaws.{at-in, in-at, in-those, those-in, those-rise}
-use Rattle.planning.specs.Sets.{worth, member, inside}
+use Rattle.planning.specs.Sets.{worth, member, inside, memberCount}
 use Rattle.lists.specs.Some.{_∈_}
 use Rattle.planning.specs.Groups.{authorised, tight, maximalBy, maximal, groupsBy, groups, pieceCount, groupOf, holds, held}
 use Rattle.lists.proofs.Truth.{never, decided, isn't, surely, both, and-both, neither, not-so, so-not}
 use Rattle.lists.proofs.EachLaws.{each-fails}
 use Rattle.planning.proofs.SetLaws.{back, member-le, inside-at, inside-fails, inside-refl, inside-trans, inside-more, inside-empty, group-small, person-lt}
+use Rattle.planning.proofs.CountLaws.{two-members, worth-in, worth-only, worth-lt}
 use Rattle.lists.proofs.SomeLaws.{some-in, in-some}
 
 -- ---- authorised groups
@@ -123,6 +125,38 @@ module _ (n : ℕ) (required : List ℕ) where
       isn't (λ t.
       let r = some-in (λ (s : ℕ). inside s 0) required t in
       inside-empty (r .0) (none (r .0) (r .1)) (group-small n (r .0) few (known (r .0) (r .1))) (r .2))
+
+  -- a person alone is unauthorised, where each required set has two members
+  one-un : ((s : ℕ) → s ∈ required → 2 ≤ memberCount s) → (i : ℕ) → 1 ≤ i → authorised required (worth i) ≡ false
+  unfolding authorised
+  one-un two i l =
+      isn't (λ t.
+      let r = some-in (λ (s : ℕ). inside s (worth i)) required t in
+      let m = two-members (r .0) (two (r .0) (r .1)) in
+      let at = inside-at (r .0) (worth i) (r .2) in
+      let low = worth-only i (m .0) l (m .2) (at (m .0) (m .2) (omega arith) (m .5)) in
+      let high = worth-only i (m .1) l (omega arith) (at (m .1) (omega arith) (m .4) (m .6)) in
+      omega arith)
+
+  -- so, where somebody is not in the group of piece 1, there is another piece, whose group has that person
+  another : n ≤ 8 → ((s : ℕ) → s ∈ required → 2 ≤ memberCount s) → (i : ℕ) → 1 ≤ i → i ≤ n → member i (groupOf n required 1) ≡ false
+      → 2 ≤ pieceCount n required
+  another few two i l h out =
+      let p = lacks few (worth i) (worth-lt n i l h) (one-un two i l) in
+      let there : member i (groupOf n required (p .0)) ≡ true = inside-at (worth i) (groupOf n required (p .0)) (p .3) i l (omega arith) (worth-in i) in
+      ⊎-elim (λ (e : 1 ≡ p .0). absurd (never out (ap (λ (j : ℕ). member i (groupOf n required j)) e ∙ there)))
+      (λ (more : 1 < p .0). omega (arith, p .2))
+      (eq-or-lt-of-le (p .1))
+
+  -- ---- k is 2 at least: the group of piece 1 lacks somebody of any required set
+  pub two-pieces : n ≤ 8 → ((s : ℕ) → s ∈ required → s < 2 ^ n) → ((s : ℕ) → s ∈ required → 2 ≤ memberCount s) → (s : ℕ) → s ∈ required
+      → 1 ≤ pieceCount n required → 2 ≤ pieceCount n required
+  two-pieces few known two s m one =
+      let first = groupOf n required 1 in
+      let out : inside s first ≡ false
+      = isn't (λ t. never (maximal-un n required first (piece-maximal 1 (omega arith) one .1)) (authorised-more required s first (authorised-required required s m) t)) in
+      let who = inside-fails s first out in
+      another few two (who .0) (who .1) (member-le n (who .0) s (known s m) (who .1) (who .3)) (who .4)
 
   pub some-piece : n ≤ 8 → ((s : ℕ) → s ∈ required → s < 2 ^ n) → ((s : ℕ) → s ∈ required → 1 ≤ s) → 1 ≤ pieceCount n required
   some-piece few known none =

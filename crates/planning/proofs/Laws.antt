@@ -7,6 +7,7 @@ use Rattle.answer.proofs.OneLaws.{outcome-one}
 use Rattle.planning.specs.declared.table.Plan.{Plan}
 use Rattle.planning.specs.Laws as law
 use Rattle.planning.proofs.SetLaws as set
+use Rattle.planning.proofs.CountLaws as count
 use Rattle.planning.proofs.ListedLaws as lists
 use Rattle.planning.proofs.HoldingLaws as holding
 use Rattle.planning.proofs.PlaceLaws as place
@@ -19,6 +20,9 @@ stranger-means = set.stranger-means
 pub inside-means : law.InsideMeans
 inside-means = set.inside-means
 
+pub one-member-means : law.OneMemberMeans
+one-member-means = count.one-member-means
+
 pub listed-means : law.ListedMeans
 listed-means = lists.listed
 
@@ -30,6 +34,9 @@ stranger-places = place.stranger-places
 
 pub open-places : law.OpenPlaces
 open-places = place.open-places
+
+pub lone-places : law.LonePlaces
+lone-places = place.lone-places
 
 pub clash-families : law.ClashFamilies
 clash-families = clash.clash-families

@@ -1,4 +1,5 @@
 pub mod SetLaws
+pub mod CountLaws
 pub mod LoopLaws
 pub mod GroupLaws
 pub mod HoldingLaws

@@ -1,29 +1,34 @@
--- At which places planning refuses the lists: LONGLIST, STRANGER and OPEN.
+-- At which places planning refuses the lists: LONGLIST, STRANGER, OPEN and LONE.
 -- Assumes nothing.
 use mathlib.Core.Path.{_≡_, refl, sym}
 use mathlib.Core.Bool.{false}
-use mathlib.Core.List.{List, [], _∷_}
+use mathlib.Core.List.{List, [], _∷_, _++_}
 use mathlib.Core.Logic.{inl, inr, ⊎-elim}
-use Prim.Native.Nat.{ℕ}
 use lib.Dec.{eqb}
 use borrow.Author.Tests.{ltb-true, ltb-false}
-use Rattle.answer.specs.declared.Kind.the-variants.{LongList, Stranger, Open}
+use Rattle.answer.specs.declared.Kind.the-variants.{LongList, Stranger, Open, Lone}
 use Rattle.answer.specs.Outcome.{number}
 use Rattle.answer.specs.Checks.{Line}
 use Rattle.answer.proofs.WhichLaws.{Gives, only-one, one-of-two, place-is}
 use Rattle.lists.specs.Some.{some}
 use Rattle.lists.proofs.SomeLaws.{none-found}
-use Rattle.planning.specs.Sets.{stranger}
+use Rattle.planning.specs.Sets.{stranger, oneMember}
 use Rattle.planning.specs.Policy.{Policy}
-use Rattle.planning.specs.Planned.{people, long, strangers, nobody, opens, clash, wide, listLines, planLines, planned}
-use Rattle.planning.specs.Laws.{LongPlaces, StrangerPlaces, OpenPlaces}
+use Rattle.planning.specs.Planned.{people, long, strangers, nobody, opens, lone, clash, wide, listLines, planLines, planned}
+use Rattle.planning.specs.Laws.{LongPlaces, StrangerPlaces, OpenPlaces, LonePlaces}
 
 -- the lines before those that look into the sets
 abbrev lengthLines : Policy → List Line
 lengthLines p = people (p .people) ∷ long 1 (p .required) ∷ long 2 (p .forbidden) ∷ []
 
+-- the lines before OPEN
+abbrev setLines : Policy → List Line
+setLines p =
+    people (p .people) ∷ long 1 (p .required) ∷ long 2 (p .forbidden) ∷ strangers (p .people) 1 (p .required) ∷ strangers (p .people) 2 (p .forbidden)
+    ∷ nobody (p .required) ∷ []
+
 pub long-places : LongPlaces
-unfolding planned planLines listLines people long strangers nobody opens clash wide some
+unfolding planned planLines listLines people long strangers nobody opens lone clash wide some
 long-places p a b e =
     ⊎-elim
     (λ (g : Gives (long 1 (p .required)) (number LongList) a b). (inl (sym (g .a-is), ltb-true _ _ (g .given)), sym (g .b-is)))
@@ -32,7 +37,7 @@ long-places p a b e =
     (one-of-two (number LongList) (people (p .people) ∷ []) (long 1 (p .required)) (long 2 (p .forbidden)) _ _ a b e refl refl)
 
 pub stranger-places : StrangerPlaces
-unfolding planned planLines listLines people long strangers nobody opens clash wide some
+unfolding planned planLines listLines people long strangers nobody opens lone clash wide some
 stranger-places p a b e =
     let here = strangers (p .people) 1 (p .required) in
     let there = strangers (p .people) 2 (p .forbidden) in
@@ -44,10 +49,13 @@ stranger-places p a b e =
     (one-of-two (number Stranger) (lengthLines p) here there _ _ a b e refl refl)
 
 pub open-places : OpenPlaces
-unfolding planned planLines listLines people long strangers nobody opens clash wide some
+unfolding planned planLines listLines people long strangers nobody opens lone clash wide some
 open-places p a b e =
-    let before =
-    people (p .people) ∷ long 1 (p .required) ∷ long 2 (p .forbidden) ∷ strangers (p .people) 1 (p .required) ∷ strangers (p .people) 2 (p .forbidden)
-    ∷ nobody (p .required) ∷ [] in
-    let g = only-one (number Open) before (opens (p .required)) _ _ a b e refl refl .1 in
+    let g = only-one (number Open) (setLines p) (opens (p .required)) _ _ a b e refl refl .1 in
     (place-is (eqb 0) (p .required) (g .given) (g .a-is), sym (g .b-is))
+
+pub lone-places : LonePlaces
+unfolding planned planLines listLines people long strangers nobody opens lone clash wide some
+lone-places p a b e =
+    let g = only-one (number Lone) (setLines p ++ opens (p .required) ∷ []) (lone (p .required)) _ _ a b e refl refl .1 in
+    (place-is oneMember (p .required) (g .given) (g .a-is), sym (g .b-is))

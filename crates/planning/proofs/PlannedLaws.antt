@@ -39,7 +39,7 @@ module _ {maximals : List ℕ} {p : Plan} where
       record { says = a ∙ ap done c ∙ sym e; table = t ∙ ap (λ (o : Outcome ℕ). rowsFor o maximals) (sym e) }
 
 -- ---- the answer, check by check
--- the lines after refusals 1 to 5
+-- the lines after refusals 1 to 5 and 22
 abbrev pub afterLists : Policy → List Line
 afterLists p = clash (p .required) (p .forbidden) ∷ wide (groups (p .people) (p .required)) ∷ []
 
@@ -48,7 +48,7 @@ abbrev pub end : Policy → Outcome ℕ
 end p = done (pieceCount (p .people) (p .required))
 
 module _ (p : Policy) where
-  -- refusals 1 to 5 and CLASH have not been given
+  -- refusals 1 to 5, 22 and CLASH have not been given
   pub record Clear : Type 0 where
     pub listed-so : Listed p
     pub then : planned p ≡ fillSays (groups (p .people) (p .required))

@@ -17,20 +17,20 @@ use Rattle.lists.proofs.Truth.{never, decided, surely, or-cases, or-l, or-r, ne
 use Rattle.lists.proofs.EachLaws.{each-at, each-of, each-fails}
 
 -- ---- binary digits: bit p is the digit worth 2 ^ p
-abbrev bit : ℕ → ℕ → ℕ
+abbrev pub bit : ℕ → ℕ → ℕ
 bit p s = s / 2 ^ p % 2
 
 bit-lt : (p s : ℕ) → bit p s < 2
 bit-lt p s = mod-lt (s / 2 ^ p) (lit< tt)
 
-bit-zero : (s : ℕ) → bit 0 s ≡ s % 2
+pub bit-zero : (s : ℕ) → bit 0 s ≡ s % 2
 bit-zero s = ap (λ (x : ℕ). x % 2) (div-one s)
 
-bit-suc : (p s : ℕ) → bit (suc p) s ≡ bit p (s / 2)
+pub bit-suc : (p s : ℕ) → bit (suc p) s ≡ bit p (s / 2)
 bit-suc p s = ap (λ (x : ℕ). x % 2) (ap (λ (k : ℕ). s / 2 ^ k) (sym (add-one p) ∙ omega arith) ∙ sym (shr-shr s 1 p))
 
 -- a digit past a number's end is 0
-bit-past : (n p s : ℕ) → s < 2 ^ n → n ≤ p → bit p s ≡ 0
+pub bit-past : (n p s : ℕ) → s < 2 ^ n → n ≤ p → bit p s ≡ 0
 bit-past n p s h l = let m : 2 ^ n ≤ 2 ^ p = pow-mono l in ap (λ (x : ℕ). x % 2) (div-eq-of-lt (omega arith))
 
 -- 2 ^ p more, where that digit was 0: no digit falls
@@ -52,15 +52,15 @@ more-lt (suc n) (suc p) g h l e =
     let k : g / 2 + 2 ^ p < 2 ^ n = more-lt n p (g / 2) (omega arith) (le-of-suc-le-suc l) (sym (bit-suc p g) ∙ e) in omega arith
 
 -- ---- members
-member-bit : (i s : ℕ) → member i s ≡ true → bit (i - 1) s ≡ 1
+pub member-bit : (i s : ℕ) → member i s ≡ true → bit (i - 1) s ≡ 1
 unfolding member
 member-bit i s t = eqb-true _ _ t
 
-bit-member : (i s : ℕ) → bit (i - 1) s ≡ 1 → member i s ≡ true
+pub bit-member : (i s : ℕ) → bit (i - 1) s ≡ 1 → member i s ≡ true
 unfolding member
 bit-member i s e = eq-eqb _ _ e
 
-out-bit : (i s : ℕ) → member i s ≡ false → bit (i - 1) s ≡ 0
+pub out-bit : (i s : ℕ) → member i s ≡ false → bit (i - 1) s ≡ 0
 unfolding member
 out-bit i s e = let f : bit (i - 1) s ≡ 1 → ⊥ = eqb-false _ _ e in omega (arith, bit-lt (i - 1) s)
 
@@ -148,7 +148,7 @@ inside-test a b h = ⊎-elim (λ (t : inside a b ≡ true). eq-eqb _ _ (same t) 
     part q = inside-of a b (λ i l h m. bit-member i b (omega (arith, and-inside a b q (i - 1), member-bit i a m, bit-lt (i - 1) b)))
 
 -- ---- somebody in a set has a number greater than n: a number above 0 has a digit 1
-some-bit : (k x : ℕ) → 0 < x → x < 2 ^ k → (p : ℕ) × (bit p x ≡ 1)
+pub some-bit : (k x : ℕ) → 0 < x → x < 2 ^ k → (p : ℕ) × (bit p x ≡ 1)
 some-bit zero x h l = absurd (omega arith)
 some-bit (suc k) x h l =
     elim (ℕ-discrete (x % 2) 1) [

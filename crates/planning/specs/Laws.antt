@@ -7,13 +7,13 @@ use mathlib.Core.Logic.{_↔_, _⊎_}
 use Prim.Native.Nat.{ℕ, _+_, _^_, _≤_, _<_}
 use lib.Dec.{eqb}
 use lib.ListN.{length}
-use Rattle.answer.specs.declared.Kind.the-variants.{LongList, Stranger, Open, Clash}
+use Rattle.answer.specs.declared.Kind.the-variants.{LongList, Stranger, Open, Lone, Clash}
 use Rattle.answer.specs.Outcome.{done, refused, number, outcome}
 use Rattle.lists.specs.Places.{at}
 use Rattle.answer.specs.Laws.{Passed}
 use Rattle.lists.specs.Laws.{IsFirst}
 use Rattle.planning.specs.declared.table.Plan.{Plan}
-use Rattle.planning.specs.Sets.{member, inside, stranger}
+use Rattle.planning.specs.Sets.{member, inside, stranger, memberCount, oneMember}
 use Rattle.lists.specs.Some.{_∈_, some}
 use Rattle.planning.specs.Groups.{authorised, maximal, pieceCount, groupOf, holds, held, marked}
 use Rattle.planning.specs.Policy.{Policy, policyOf}
@@ -28,7 +28,12 @@ StrangerMeans = (n s : ℕ) → s < 2 ^ 16 → (stranger n s ≡ true) ↔ ((i :
 abbrev pub InsideMeans : Type 0
 InsideMeans = (a b : ℕ) → a < 2 ^ 16 → (inside a b ≡ true) ↔ ((i : ℕ) → 1 ≤ i → member i a ≡ true → member i b ≡ true)
 
--- ---- lists on which refusals 1 to 5 pass
+-- A set has exactly one member exactly when somebody is in it, and nobody else is.
+abbrev pub OneMemberMeans : Type 0
+OneMemberMeans = (s : ℕ) → s < 2 ^ 16
+    → (oneMember s ≡ true) ↔ ((i : ℕ) × (1 ≤ i) × (member i s ≡ true) × ((j : ℕ) → 1 ≤ j → member j s ≡ true → j ≡ i))
+
+-- ---- lists on which refusals 1 to 5 and 22 pass
 pub record Listed (p : Policy) : Type 0 where
   pub somebody : 1 ≤ p .people
   pub few : p .people ≤ 8
@@ -38,8 +43,9 @@ pub record Listed (p : Policy) : Type 0 where
   pub known-forbidden : (s : ℕ) → s ∈ p .forbidden → s < 2 ^ p .people
   pub some-required : 1 ≤ length (p .required)
   pub none-empty : (s : ℕ) → s ∈ p .required → 1 ≤ s
+  pub none-alone : (s : ℕ) → s ∈ p .required → 2 ≤ memberCount s
 
--- They have 1 to 8 people, at most 256 sets each, all of them groups, and a required set, none of them empty.
+-- They have 1 to 8 people, at most 256 sets each, all of them groups, and a required set; each required set has two members at least.
 abbrev pub ListedMeans : Type 0
 ListedMeans = (p : Policy) → Passed (listLines p) → Listed p
 
@@ -65,6 +71,11 @@ abbrev pub OpenPlaces : Type 0
 OpenPlaces = (p : Policy) (a b : ℕ) → planned p ≡ refused (number Open) a b
     → IsFirst (λ i. eqb 0 (at (p .required) i)) 1 (length (p .required) + 1) a × (b ≡ 0)
 
+-- LONE: a is the first place of a required set with exactly one member; b is 0.
+abbrev pub LonePlaces : Type 0
+LonePlaces = (p : Policy) (a b : ℕ) → planned p ≡ refused (number Lone) a b
+    → IsFirst (λ i. oneMember (at (p .required) i)) 1 (length (p .required) + 1) a × (b ≡ 0)
+
 -- ---- the clash rule (000, Theorem 2)
 -- SCOPE 2: the three properties of a family of groups, F g being that g is in it. Each required set is in it; no forbidden set is; and with
 -- a group, every group around that one is.
@@ -77,7 +88,7 @@ pub record Suits (p : Policy) (F : ℕ → Type 0) : Type 0 where
 abbrev pub Clashes : Policy → Type 0
 Clashes p = (a : ℕ) × (b : ℕ) × (planned p ≡ refused (number Clash) a b)
 
--- SCOPE 2: let refusals 1 to 5 pass; then CLASH is the answer exactly if no family has these properties. Where it is given, no family at
+-- SCOPE 2: let refusals 1 to 5 and 22 pass; then CLASH is the answer exactly if no family has these properties. Where it is given, no family at
 -- all has them; where it is not, one that is a test has them.
 abbrev pub ClashFamilies : Type 1
 ClashFamilies = (p : Policy) → Passed (listLines p)
@@ -119,14 +130,14 @@ Lacks = (n : ℕ) (required : List ℕ) → n ≤ 8 → (g : ℕ) → g < 2 ^ n 
     × ((i : ℕ) → 1 ≤ i → i ≤ n → member i g ≡ true → holds n required i j ≡ false)
 
 -- ---- an accepted policy
--- It passes refusals 1 to 5.
+-- It passes refusals 1 to 5 and 22.
 abbrev pub AcceptedListed : Type 0
 AcceptedListed = (p : Policy) (k : ℕ) → planned p ≡ done k → Listed p
 
--- It has k pieces, 1 to 70.
+-- It has k pieces, 2 to 70: with one piece alone, whoever holds it would open alone.
 abbrev pub SomePiece : Type 0
 SomePiece = (p : Policy) (k : ℕ) → planned p ≡ done k
-    → (k ≡ pieceCount (p .people) (p .required)) × (1 ≤ k) × (k ≤ 70)
+    → (k ≡ pieceCount (p .people) (p .required)) × (2 ≤ k) × (k ≤ 70)
 
 -- SCOPE 2: two accepted policies that differ in the forbidden list alone have the same pieces and holdings.
 abbrev pub ForbiddenFree : Type 0

@@ -1,15 +1,15 @@
--- What planning answers: SCOPE 6, refusals 1 to 7, and the table of rows.
+-- What planning answers: SCOPE 6, refusals 1 to 5, 22, 6 and 7, and the table of rows.
 -- Assumes nothing.
 use mathlib.Core.Bool.{Bool, _||_}
 use mathlib.Core.List.{List, [], _∷_, _++_}
 use Prim.Native.Nat.{ℕ}
 use lib.Dec.{eqb, ltb}
 use lib.ListN.{length}
-use Rattle.answer.specs.declared.Kind.the-variants.{People, LongList, Stranger, Nobody, Open, Clash, Wide}
+use Rattle.answer.specs.declared.Kind.the-variants.{People, LongList, Stranger, Nobody, Open, Clash, Wide, Lone}
 use Rattle.answer.specs.Outcome.{Outcome, done, refused}
 use Rattle.answer.specs.Checks.{Line, line, firstFail}
 use Rattle.lists.specs.Places.{firstPlace, found, at}
-use Rattle.planning.specs.Sets.{inside, stranger}
+use Rattle.planning.specs.Sets.{inside, stranger, oneMember}
 use Rattle.planning.specs.Policy.{Policy}
 use Rattle.planning.specs.Groups.{groups, pieceCount, rowsOf}
 
@@ -33,6 +33,10 @@ nobody required = line Nobody (eqb (length required) 0) 0 0
 unfoldable pub opens : List ℕ → Line
 opens required = line Open (found (firstPlace (eqb 0) required)) (firstPlace (eqb 0) required) 0
 
+-- 22 LONE: a required set has a single member, who would open alone; a is the first such set
+unfoldable pub lone : List ℕ → Line
+lone required = line Lone (found (firstPlace oneMember required)) (firstPlace oneMember required) 0
+
 -- the place of the first forbidden set around the set s, or 0
 abbrev pub aroundPlace : List ℕ → ℕ → ℕ
 aroundPlace forbidden s = firstPlace (inside s) forbidden
@@ -51,7 +55,7 @@ clash required forbidden =
 unfoldable pub wide : List ℕ → Line
 wide maximals = line Wide (ltb 70 (length maximals)) 0 0
 
--- refusals 1 to 5, in their order
+-- refusals 1 to 5 and 22, in their order
 unfoldable pub listLines : Policy → List Line
 listLines p =
     people (p .people)
@@ -61,9 +65,10 @@ listLines p =
     ∷ strangers (p .people) 2 (p .forbidden)
     ∷ nobody (p .required)
     ∷ opens (p .required)
+    ∷ lone (p .required)
     ∷ []
 
--- 1 to 7, in the order of SCOPE 6.3
+-- 1 to 5, 22, 6 and 7, in the order of SCOPE 6.3
 unfoldable pub planLines : Policy → List Line
 planLines p = listLines p ++ clash (p .required) (p .forbidden) ∷ wide (groups (p .people) (p .required)) ∷ []
 

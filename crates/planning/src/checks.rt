@@ -1,6 +1,7 @@
-// Refusals 1 to 6: the first place at which a list breaks a rule, and the checks in their order.
+// Refusals 1 to 6 and 22: the first place at which a list breaks a rule, and the checks in their order.
 use crate::sets::group_count;
 use crate::sets::inside;
+use crate::sets::one_member;
 use answer::Answer;
 use answer::Kind;
 ghost use mathlib.Core.Path.{_≡_};
@@ -10,7 +11,7 @@ ghost use lib.Dec.{eqb};
 ghost use Rattle.answer.specs.Outcome.{outcome, done};
 ghost use Rattle.answer.specs.Checks.{firstFail};
 ghost use Rattle.lists.specs.Places.{firstPlace};
-ghost use Rattle.planning.specs.Sets.{stranger};
+ghost use Rattle.planning.specs.Sets.{stranger, oneMember};
 ghost use Rattle.planning.specs.Policy.{policyOf};
 ghost use Rattle.planning.specs.Planned.{aroundPlace, clashPlace, clash, listLines};
 
@@ -37,6 +38,20 @@ fn first_empty(list: &[u16]) -> usize
     let mut i = 0;
     while i < list.len() {
         if 0 == list[i] {
+            return i + 1;
+        }
+        i += 1;
+    }
+    0
+}
+
+// The place of the first set with exactly one member, or 0.
+fn first_lone(list: &[u16]) -> usize
+    ensures { λ r. ⌜ r ≡ firstPlace oneMember (now (list .entry)) ⌝ }
+{
+    let mut i = 0;
+    while i < list.len() {
+        if one_member(list[i]) {
             return i + 1;
         }
         i += 1;
@@ -72,7 +87,7 @@ fn first_clash(required: &[u16], forbidden: &[u16]) -> usize
     0
 }
 
-// Refusals 1 to 5.
+// Refusals 1 to 5 and 22.
 pub fn check_lists(people: usize, required: &[u16], forbidden: &[u16]) -> Answer
     ensures { λ r. ⌜ outcome r ≡ firstFail (listLines (policyOf people (now (required .entry)) (now (forbidden .entry)))) (done 0) ⌝ }
 {
@@ -102,6 +117,10 @@ pub fn check_lists(people: usize, required: &[u16], forbidden: &[u16]) -> Answer
     let empty = first_empty(required);
     if empty != 0 {
         return answer::refuse(Kind::Open, empty, 0);
+    }
+    let alone = first_lone(required);
+    if alone != 0 {
+        return answer::refuse(Kind::Lone, alone, 0);
     }
     Answer::Done(0)
 }

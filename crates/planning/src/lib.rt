@@ -1,4 +1,4 @@
-// Planning: from a number of people and two lists of sets to pieces and holdings (SCOPE 2, refusals 1 to 7).
+// Planning: from a number of people and two lists of sets to pieces and holdings (SCOPE 2, refusals 1 to 7 and 22).
 mod checks;
 mod groups;
 mod sets;

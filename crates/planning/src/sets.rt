@@ -1,7 +1,7 @@
 // Sets and groups: the leaves that planning stands on.
 ghost use mathlib.Core.Path.{_≡_};
 ghost use Prim.Native.Nat.{_^_, _≤_};
-ghost use Rattle.planning.specs.Sets.{inside, marks};
+ghost use Rattle.planning.specs.Sets.{inside, oneMember, marks};
 ghost use Rattle.planning.specs.Groups.{authorised};
 
 // Each person of a is in b.
@@ -9,6 +9,13 @@ pub fn inside(a: u16, b: u16) -> bool
     ensures { λ r. ⌜ r ≡ inside a b ⌝ }
 {
     a & b == a
+}
+
+// The set s has exactly one member.
+pub fn one_member(s: u16) -> bool
+    ensures { λ r. ⌜ r ≡ oneMember s ⌝ }
+{
+    u16::count_ones(s) == 1
 }
 
 // The row of member marks of a group.

@@ -115,7 +115,8 @@ fn lengths() {
     four(b"two words with none, holder", 7, 4, &two, &none, 512);
 }
 
-// Other policies: P3, whose holder 3 has no piece; one piece, which needs no randomness; and two that planning refuses, with all else wrong.
+// Other policies: P3, whose holder 3 has no piece; two people, who have a piece each; one person, who would open alone; and three that planning
+// refuses, with all else wrong.
 fn policies() {
     let none = [0u16; 0];
     let first = [1u16];
@@ -133,7 +134,18 @@ fn policies() {
         0,
     );
     case(
-        b"one piece, holder",
+        b"two pieces, holder",
+        2,
+        &both,
+        &none,
+        1,
+        1,
+        &words,
+        &words,
+        512,
+    );
+    case(
+        b"one person alone, holder",
         1,
         &first,
         &none,
@@ -142,6 +154,17 @@ fn policies() {
         &words,
         &none,
         512,
+    );
+    case(
+        b"all wrong, and one person alone, holder",
+        2,
+        &first,
+        &first,
+        0,
+        5,
+        &none,
+        &none,
+        0,
     );
     case(
         b"all wrong, and clash, holder",
@@ -174,10 +197,12 @@ fn bad(name: &[u8], people: usize, required: &[u16], forbidden: &[u16]) {
     case(name, people, required, forbidden, 1, 1, &secret, &none, 512);
 }
 
-// Refusals 1 to 6, as planning gives them.
+// Refusals 1 to 6 and 22, as planning gives them.
 fn bad_policies() {
     let none = [0u16; 0];
     let first = [1u16];
+    let both = [3u16];
+    let alone = [3u16, 2, 1];
     let open = [1u16, 0];
     let stranger = [1u16, 3, 4];
     let long = [1u16; 257];
@@ -188,7 +213,9 @@ fn bad_policies() {
     bad(b"a forbidden stranger, holder", 2, &first, &stranger);
     bad(b"no required set, holder", 2, &none, &first);
     bad(b"an empty required set, holder", 2, &open, &none);
-    bad(b"clash, holder", 2, &first, &first);
+    bad(b"a required set of one, holder", 2, &alone, &none);
+    bad(b"the same set of one forbidden, holder", 2, &first, &first);
+    bad(b"clash, holder", 2, &both, &both);
 }
 
 // P11's deal to each of its holders.

@@ -51,21 +51,39 @@ fn case(by_differences: bool, name: &[u8], pile: &[u8], out: &mut [u16]) {
     io::write_all(1, b"\n");
 }
 
-// The one card of a deal of the secret 1234, 5678 to one person, with less and with more room than it needs.
-fn rooms(by_differences: bool) {
+// A holder's card of a deal of the secret 1234, 5678 to two people, into what is lent from byte `at` on.
+fn card(holder: usize, out: &mut [u8], at: usize) {
     let none = [0u16; 0];
-    let required = [1u16];
+    let required = [3u16];
     let secret = [1234u16, 5678];
-    let mut card = [0u8; 512];
-    dealing::deal(1, &required, &none, 7, 1, &secret, &none, &mut card);
+    let random = [5u16, 7];
+    if at <= out.len() {
+        dealing::deal(
+            2,
+            &required,
+            &none,
+            7,
+            holder,
+            &secret,
+            &random,
+            &mut out[at..],
+        );
+    }
+}
+
+// Both cards of that deal, with less and with more room than the secret needs.
+fn rooms(by_differences: bool) {
+    let mut cards = [0u8; 1024];
+    card(1, &mut cards, 0);
+    card(2, &mut cards, 512);
     let mut no_words = [0u16; 0];
     let mut one = [9u16];
     let mut two = [9u16, 9];
     let mut three = [9u16, 9, 9];
-    case(by_differences, b"no room:", &card, &mut no_words);
-    case(by_differences, b"room for 1:", &card, &mut one);
-    case(by_differences, b"room for 2:", &card, &mut two);
-    case(by_differences, b"room for 3:", &card, &mut three);
+    case(by_differences, b"no room:", &cards, &mut no_words);
+    case(by_differences, b"room for 1:", &cards, &mut one);
+    case(by_differences, b"room for 2:", &cards, &mut two);
+    case(by_differences, b"room for 3:", &cards, &mut three);
 }
 
 // The first n bytes as a pile.

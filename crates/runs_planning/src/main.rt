@@ -206,6 +206,21 @@ fn strangers() {
     case(b"a stranger forbidden, nothing required", 2, b"", b"3");
 }
 
+// Required sets of one member.
+fn alone() {
+    case(b"one person, who is required alone", 1, b"1", b"");
+    case(
+        b"person 8 required alone at place 3",
+        8,
+        b"12 78 8 1 18",
+        b"",
+    );
+    case(b"a required set of one and an empty one", 3, b"1 -", b"");
+    case(b"a set of one and clashes", 4, b"12 34 4", b"12 4");
+    case(b"the same with two members each", 4, b"12 34 14", b"12 4");
+    case(b"sets of one that are forbidden", 3, b"12 13", b"1 2 3");
+}
+
 fn clashes() {
     case(b"nothing required", 2, b"", b"12");
     case(b"an empty required set at place 2", 3, b"12 - -", b"123");
@@ -225,5 +240,6 @@ fn main() {
     source_001();
     long_lists();
     strangers();
+    alone();
     clashes();
 }

@@ -7,7 +7,7 @@ use borrow.Author.Needs.{needs}
 use borrow.Author.Tests.{eq-eqb, ne-eqb, lt-ltb, le-ltb}
 use Rattle.answer.specs.Checks.{Line}
 use Rattle.planning.specs.Policy.{Policy, policyOf}
-use Rattle.planning.specs.Planned.{people, long, strangers, nobody, opens, listLines}
+use Rattle.planning.specs.Planned.{people, long, strangers, nobody, opens, lone, listLines}
 use Rattle.lists.proofs.Truth.{or-l, or-r}
 use Rattle.answer.proofs.SaysLaws.{said, Says, whole, passes, speaks, silent}
 use Rattle.lists.proofs.SomeLaws.{found-at, found-none}
@@ -15,8 +15,11 @@ use Rattle.planning.proofs.checks.check_lists.Statement.{statement}
 use Rattle.planning.proofs.checks.check_lists.Tie as tie
 
 -- the lines that are left after the first, the second ..
+abbrev left7 : Policy → List Line
+left7 p = lone (p .required) ∷ []
+
 abbrev left6 : Policy → List Line
-left6 p = opens (p .required) ∷ []
+left6 p = opens (p .required) ∷ left7 p
 
 abbrev left5 : Policy → List Line
 left5 p = nobody (p .required) ∷ left6 p
@@ -33,8 +36,8 @@ left2 p = long 2 (p .forbidden) ∷ left3 p
 abbrev left1 : Policy → List Line
 left1 p = long 1 (p .required) ∷ left2 p
 
-abbrev left7 : Policy → List Line
-left7 p = []
+abbrev left8 : Policy → List Line
+left8 p = []
 
 -- all lines say what those that are left say
 abbrev Left : tie.Start → (Policy → List Line) → Type 0
@@ -71,6 +74,10 @@ on6 c = passes (on5 (c .before)) (ne-eqb _ _ (c .if7 .left))
 on7 : (c : tie.Else8) → Left (c .before .before .before .before .before .before .before .before .before .before .before .before .before) left7
 unfolding opens
 on7 c = passes (on6 (c .before .before)) (found-none (c .before .first-empty .ensures) (c .if8 .left))
+
+on8 : (c : tie.Else9) → Left (c .before .before .before .before .before .before .before .before .before .before .before .before .before .before .before) left8
+unfolding lone
+on8 c = passes (on7 (c .before .before)) (found-none (c .before .first-lone .ensures) (c .if9 .left))
 
 returns : tie.Need-returns
 unfolding people
@@ -111,7 +118,13 @@ returns-8 c =
     c .refuse8 .ensures ∙ rw found (speaks (on6 (c .before .before .before)) (found-at found (c .before .if8 .taken)))
 
 returns-9 : tie.Need-returns-9
-returns-9 c = silent (on7 c)
+unfolding lone
+returns-9 c =
+    let found = c .before .before .first-lone .ensures in
+    c .refuse9 .ensures ∙ rw found (speaks (on7 (c .before .before .before)) (found-at found (c .before .if9 .taken)))
+
+returns-10 : tie.Need-returns-10
+returns-10 c = silent (on8 c)
 
 pub check-lists-spec : {M : Type 1} → statement M
 check-lists-spec =
@@ -136,4 +149,7 @@ check-lists-spec =
     (λ c κs. search needs)
     (λ c κs. search needs)
     returns-8
-    returns-9)
+    (λ c κs. search needs)
+    (λ c κs. search needs)
+    returns-9
+    returns-10)
