@@ -28,6 +28,22 @@ static struct list get_list(void) {
     return list;
 }
 
+/* the calls that have a key */
+static titmeadow_answer answer_key(uint64_t call, const uint64_t *n, const struct list *l, struct list out) {
+    switch (call) {
+    case 6:
+        return titmeadow_pack(l[0].at, l[0].size, out.at);
+    case 7:
+        return titmeadow_unpack(l[0].at, l[0].size / 2, out.at, out.size);
+    case 8:
+        return titmeadow_deal_key(n[0], l[0].at, l[0].size / 2, l[1].at, l[1].size / 2, n[1], n[2], l[2].at, l[2].size, l[3].at, l[3].size / 2,
+                                  out.at, out.size);
+    case 9:
+        return titmeadow_join_key(l[0].at, l[0].size, out.at, out.size);
+    }
+    exit(1);
+}
+
 static titmeadow_answer answer(uint64_t call, const uint64_t *n, const struct list *l, struct list out) {
     switch (call) {
     case 1:
@@ -42,7 +58,7 @@ static titmeadow_answer answer(uint64_t call, const uint64_t *n, const struct li
     case 5:
         return titmeadow_join_by_differences(l[0].at, l[0].size, out.at, out.size / 2);
     }
-    exit(1);
+    return answer_key(call, n, l, out);
 }
 
 int main(void) {

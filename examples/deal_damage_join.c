@@ -1,6 +1,7 @@
-/* Deals to four custodians, damages a card and joins: what the unit does with a good pile, a short one, a dirty one and a torn one.
+/* Deals to four custodians, damages a card and joins: what the unit does with a good pile, a short one, a dirty one and a torn one. Then
+ * splits a key among the four and restores it.
  *   rt staticlib titmeadow && cc -I include examples/deal_damage_join.c target/staticlib/libtitmeadow.a -o target/example && target/example
- * It prints its six answers and ends with status 0 where they are those that SCOPE gives. */
+ * It prints its ten answers and ends with status 0 where they are those that SCOPE gives. */
 #include <stdio.h>
 #include <string.h>
 #include "titmeadow.h"
@@ -16,6 +17,23 @@ static size_t cards(size_t first, size_t second, uint8_t *pile, size_t room) {
     const size_t holders[] = {first, second};
     for (int i = 0; i < 2; i++) {
         titmeadow_answer dealt = titmeadow_deal(4, required, 3, forbidden, 1, 7, holders[i], secret, 1, randomness, 2, pile + length, room - length);
+        if (dealt.number != 0)
+            return 0;
+        length += TITMEADOW_BLOCK_BYTES * dealt.a;
+    }
+    return length;
+}
+
+/* The same of a key, which is ten words: ten times as much randomness. A unit draws it even, and for one deal; this one is for show. */
+static size_t key_cards(size_t first, size_t second, const uint8_t key[TITMEADOW_KEY_BYTES], uint8_t *pile, size_t room) {
+    static uint16_t many[2 * TITMEADOW_KEY_WORDS];
+    size_t length = 0;
+    const size_t holders[] = {first, second};
+    for (uint16_t i = 0; i < 2 * TITMEADOW_KEY_WORDS; i++)
+        many[i] = 1000 * (i + 1);
+    for (int i = 0; i < 2; i++) {
+        titmeadow_answer dealt = titmeadow_deal_key(4, required, 3, forbidden, 1, 8, holders[i], key, TITMEADOW_KEY_BYTES, many,
+                                                    2 * TITMEADOW_KEY_WORDS, pile + length, room - length);
         if (dealt.number != 0)
             return 0;
         length += TITMEADOW_BLOCK_BYTES * dealt.a;
@@ -45,5 +63,19 @@ int main(void) {
     length = cards(1, 2, pile, sizeof pile);
     memcpy(pile + TITMEADOW_BLOCK_BYTES + 14, "\x7f\xff", 2); /* the reader could not read the first value of block 2 */
     good &= is("a dirty slot", titmeadow_join(pile, length, joined, TITMEADOW_SECRET_MOST), TITMEADOW_UNREAD, 2, 8) && joined[0] == 1234;
+
+    const uint8_t key[] = "fifteen letters"; /* and the zero behind them */
+    uint8_t restored[TITMEADOW_KEY_BYTES] = {0};
+    length = key_cards(1, 2, key, pile, sizeof pile);
+    good &= is("a key, holders 1 and 2", titmeadow_join_key(pile, length, restored, sizeof restored), 0, TITMEADOW_KEY_BYTES, 0);
+    good &= memcmp(restored, key, sizeof restored) == 0;
+    good &= is("15 bytes for it", titmeadow_join_key(pile, length, restored, sizeof restored - 1), TITMEADOW_ROOM, TITMEADOW_KEY_BYTES, 0);
+
+    length = key_cards(1, 4, key, pile, sizeof pile);
+    good &= is("a key, holders 1 and 4", titmeadow_join_key(pile, length, restored, sizeof restored), TITMEADOW_SHORT, 2, 3);
+
+    length = cards(1, 2, pile, sizeof pile);
+    good &= is("a code is no key", titmeadow_join_key(pile, length, restored, sizeof restored), TITMEADOW_NOTKEY, 0, 0);
+    good &= memcmp(restored, key, sizeof restored) == 0;
     return good ? 0 : 1;
 }

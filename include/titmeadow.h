@@ -3,8 +3,8 @@
  * Whatever a call is given, it ends in its result or in a refusal, which has a number and the places a and b. A place is counted from
  * 1, and 0 where none is named. After a refusal, all that was lent is as before; a result writes only what is said here.
  * There is no heap, no state and no input that traps. A pointer is valid for as many elements as the count beside it says, and
- * what is lent to be written overlaps nothing else that is lent. Where the count is 0, the pointer may be NULL. groups and head have
- * their size in the declaration and no count: they are never NULL.
+ * what is lent to be written overlaps nothing else that is lent. Where the count is 0, the pointer may be NULL. groups, head and the
+ * words of titmeadow_pack have their size in the declaration and no count: they are never NULL.
  *
  * The archive is for x86-64. Its size, and the stack that each call takes on that target: docs/BENCHMARKS.md.
  * Symbols that it needs: memcpy, memset.
@@ -27,6 +27,8 @@
 #define TITMEADOW_HEAD_WORDS 7    /* mark, deal number, holder, people, k, w, piece */
 #define TITMEADOW_CARD_MOST 35    /* blocks on a card; titmeadow_deal says why */
 #define TITMEADOW_PILE_MOST 560   /* blocks in a pile */
+#define TITMEADOW_KEY_BYTES 16    /* a key has so many, not one more or less */
+#define TITMEADOW_KEY_WORDS 10    /* and so many words: w where a key is dealt */
 
 /* The size of an array parameter: C compilers can warn of an argument that is smaller, or NULL. In C++ it is a pointer. */
 #ifdef __cplusplus
@@ -55,9 +57,9 @@ enum titmeadow_refusal {
     TITMEADOW_WIDE = 7,      /* there are over 70 maximal groups, which 8 people never have */
     TITMEADOW_DEAL = 8,      /* the deal number is 0 or exceeds 32748 */
     TITMEADOW_HOLDER = 9,    /* the holder is 0 or exceeds the number of people */
-    TITMEADOW_SECRET = 10,   /* no words, or more than 16 (a = 0); else some word exceeds 32748; a: the first such word */
+    TITMEADOW_SECRET = 10,   /* no words, or more than 16, or a key not of 16 bytes (a = 0); else some word exceeds 32748; a: the first such word */
     TITMEADOW_RANDOM = 11,   /* not w(k - 1) words (a = 0); else some word exceeds 32748; a: the first such word */
-    TITMEADOW_ROOM = 12,     /* the result does not fit in the lent buffer; a: how many blocks or words it has */
+    TITMEADOW_ROOM = 12,     /* the result does not fit in the lent buffer; a: how many blocks or words it has, and of a key its 16 bytes */
     TITMEADOW_TORN = 13,     /* bytes are left over after the whole blocks */
     TITMEADOW_LONG = 14,     /* there are more than 560 blocks */
     TITMEADOW_UNREAD = 15,   /* some word of a block exceeds 32748; a: the block, b: the first such word */
@@ -67,7 +69,8 @@ enum titmeadow_refusal {
     TITMEADOW_CONFLICT = 19, /* a block has an earlier one's piece, and other values; a: the first such block, b: the first such earlier one */
     TITMEADOW_SHORT = 20,    /* of the pieces 1 to k not all are there; a: how many different ones are, b: k */
     TITMEADOW_TEXT = 21,     /* the text of a policy cannot be read (the listing program only); a: the first bad line */
-    TITMEADOW_LONE = 22      /* a required set has a single member; a: the first such set */
+    TITMEADOW_LONE = 22,     /* a required set has a single member; a: the first such set */
+    TITMEADOW_NOTKEY = 23    /* there are not ten words (a = 0); else the first exceeds 2047 or another 8191; a: the first such word */
 };
 
 /* Planning: the result is k, the number of pieces. A set is a number in which the bit of person i is 2^(i-1).
@@ -99,6 +102,28 @@ titmeadow_answer titmeadow_join_by_differences(const uint8_t *pile, size_t lengt
 /* Opening the first block of a pile: the result is 7, and its words 1 to 7 are written to the seven places of head.
  * Refuses 13 (fewer than 512 bytes; a = 0, since there is no block); 15, 16, 17, each with a = 1. */
 titmeadow_answer titmeadow_open(const uint8_t *pile, size_t length, uint16_t head[TITMEADOW_PLACES(TITMEADOW_HEAD_WORDS)]);
+
+/* A key has 16 bytes, which are one number of 128 bits, the first byte the highest. The same number is ten words of 13 bits, the first
+ * word the highest: that one is at most 2047, the others at most 8191. Every key has one such list of words, and every such list one key.
+ *
+ * Packing: the result is 10, and the key's words are written to the ten places of words. Refuses 10 (not 16 bytes; a = 0). */
+titmeadow_answer titmeadow_pack(const uint8_t *key, size_t length, uint16_t words[TITMEADOW_PLACES(TITMEADOW_KEY_WORDS)]);
+
+/* Unpacking: the result is 16, and the bytes of the key that has these words are written to the front of key. room counts bytes.
+ * Refuses 23; 12 (a = 16). */
+titmeadow_answer titmeadow_unpack(const uint16_t *words, size_t count, uint8_t *key, size_t room);
+
+/* Dealing one holder's card of a key, which is dealt as its ten words: all is as titmeadow_deal has it for a secret of w = 10 words, so
+ * random has 10(k - 1) words. The result is the number of blocks, which are written to the front of card. room counts bytes.
+ * Refuses 1 to 5, 22, 6 to 9; 10 (the key has not 16 bytes; a = 0); 11; 12 (a: blocks), in this order. */
+titmeadow_answer titmeadow_deal_key(size_t people, const uint16_t *required, size_t required_count, const uint16_t *forbidden,
+                                    size_t forbidden_count, size_t deal, size_t holder, const uint8_t *key, size_t length,
+                                    const uint16_t *random, size_t random_count, uint8_t *card, size_t room);
+
+/* Joining a pile to a key: the pile is joined as titmeadow_join does it, and its words are unpacked. The result is 16, and the key's bytes
+ * are written to the front of key. room counts bytes. Refuses 13, 14; for one block after the other 15, 16, 17; then 18, 19, 20; 23, for
+ * words that are no key's; last 12 (a = 16). */
+titmeadow_answer titmeadow_join_key(const uint8_t *pile, size_t length, uint8_t *key, size_t room);
 
 #ifdef __cplusplus
 }

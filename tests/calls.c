@@ -1,5 +1,5 @@
 /* Every exported call with every refusal that it can give: its number, both places, and all that was lent to be written, compared whole;
- * results and NULL for a count of 0 as well. tests/cards.c and tests/piles.c have the cases; what they expect is worked out from
+ * results and NULL for a count of 0 as well. tests/cards.c, piles.c and keys.c have the cases; what they expect is worked out from
  * docs/SCOPE.md, by hand where no rule is written here. It prints for each call the numbers that were met, 0 for a result; its status is
  * 0 only where all was as expected, and each call was seen to give all that it can. tools/firmware builds it, runs it and holds what it
  * prints to the header and to the archive. */
@@ -18,6 +18,10 @@ static const struct {
     [JOIN] = {"titmeadow_join", {12, 13, 14, 15, 16, 17, 18, 19, 20}},
     [JOIN_BY_DIFFERENCES] = {"titmeadow_join_by_differences", {12, 13, 14, 15, 16, 17, 18, 19, 20}},
     [OPEN] = {"titmeadow_open", {13, 15, 16, 17}},
+    [PACK] = {"titmeadow_pack", {10}},
+    [UNPACK] = {"titmeadow_unpack", {12, 23}},
+    [DEAL_KEY] = {"titmeadow_deal_key", {1, 2, 3, 4, 5, 6, 8, 9, 10, 11, 12, 22}},
+    [JOIN_KEY] = {"titmeadow_join_key", {12, 13, 14, 15, 16, 17, 18, 19, 20, 23}},
 };
 /* Those that no input gives: eight people never have over 70 maximal groups, and the listing program alone reads texts. */
 static const size_t never[] = {TITMEADOW_WIDE, TITMEADOW_TEXT};
@@ -130,6 +134,7 @@ int main(void) {
         paint = paints[i];
         cards();
         piles();
+        keys();
     }
     return summary();
 }

@@ -8,6 +8,8 @@
 
 static uint8_t stack[1 << 20] __attribute__((aligned(4096)));
 static uint8_t pile[560 * 512], card[35 * 512], few[70 * 512];
+static uint8_t key_pile[560 * 512], key[16];
+static size_t key_piled;
 static uint16_t required[256], groups[70], secret[16], words[16], randomness[16 * 69], head[7];
 static size_t sets, piled, fewer;
 static volatile size_t sink;
@@ -20,6 +22,10 @@ static void join_by_differences(void) { sink = titmeadow_join_by_differences(pil
 static void join_few(void) { sink = titmeadow_join(few, fewer, words, 16).number; }
 static void join_few_by_differences(void) { sink = titmeadow_join_by_differences(few, fewer, words, 16).number; }
 static void open(void) { sink = titmeadow_open(pile, piled, head).a; }
+static void pack(void) { sink = titmeadow_pack(key, 16, words).a; }
+static void unpack(void) { sink = titmeadow_unpack(secret, 10, key, 16).a; }
+static void deal_key(void) { sink = titmeadow_deal_key(8, required, sets, required, 0, 7, 3, key, 16, randomness, 10 * 69, card, sizeof card).a; }
+static void join_key(void) { sink = titmeadow_join_key(key_pile, key_piled, key, 16).a; }
 
 static ucontext_t back, there;
 
@@ -84,9 +90,13 @@ int main(void) {
             required[sets++] = (uint16_t)set;
     for (size_t holder = 1; holder <= 8; holder++)
         piled += 512 * titmeadow_deal(8, required, sets, required, 0, 7, holder, secret, 16, randomness, 16 * 69, pile + piled, sizeof pile - piled).a;
+    for (size_t holder = 1; holder <= 8; holder++)
+        key_piled += 512 * titmeadow_deal_key(8, required, sets, required, 0, 7, holder, key, 16, randomness, 10 * 69, key_pile + key_piled,
+                                              sizeof key_pile - key_piled).a;
     struct { const char *name; void (*f)(void); } calls[] = {
         {"titmeadow_plan", plan}, {"titmeadow_deal", deal}, {"titmeadow_join", join}, {"titmeadow_join_by_differences", join_by_differences},
-        {"titmeadow_open", open}};
+        {"titmeadow_open", open}, {"titmeadow_pack", pack}, {"titmeadow_unpack", unpack}, {"titmeadow_deal_key", deal_key},
+        {"titmeadow_join_key", join_key}};
     size_t base = used(nothing);
     for (size_t i = 0; i < sizeof calls / sizeof *calls; i++) {
         size_t bytes = used(calls[i].f) - base;

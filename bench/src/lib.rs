@@ -3,6 +3,7 @@
 
 pub mod cards;
 pub mod inputs;
+pub mod met;
 pub mod numbers;
 pub mod reference;
 pub mod unit;

@@ -2,9 +2,11 @@
 //! Where the proved code and this disagree, SCOPE decides.
 
 mod joined;
+mod keys;
 mod programs;
 
 pub use joined::{by_differences, join, join_by_differences, weights};
+pub use keys::{deal_key, join_key, pack, unpack};
 pub use programs::{joining, listing, read_policy};
 
 /// The prime of the build.
@@ -126,16 +128,22 @@ pub struct Deal {
     pub random: Vec<u16>,
 }
 
-/// Dealing: one holder's card into the front of `out`; the number of blocks.
-pub fn deal(d: &Deal, holder: usize, out: &mut [u8]) -> Result<usize, Refusal> {
+/// Refusals 1 to 9 and 22: policy, deal number and holder are good. The group of each piece.
+fn sound(d: &Deal, holder: usize) -> Result<Vec<u16>, Refusal> {
     let groups = plan(d.people, &d.required, &d.forbidden)?;
-    let k = groups.len();
     if d.number == 0 || d.number > 32748 {
         return refuse(8, 0, 0);
     }
     if holder == 0 || holder > d.people {
         return refuse(9, 0, 0);
     }
+    Ok(groups)
+}
+
+/// Dealing: one holder's card into the front of `out`; the number of blocks.
+pub fn deal(d: &Deal, holder: usize, out: &mut [u8]) -> Result<usize, Refusal> {
+    let groups = sound(d, holder)?;
+    let k = groups.len();
     let w = d.secret.len();
     if w == 0 || w > 16 {
         return refuse(10, 0, 0);

@@ -50,3 +50,23 @@ pub fn join_by_differences(pile: &[u8], out: &mut [u16]) -> Result<usize, Refusa
 pub fn open(pile: &[u8], head: &mut [u16; 7]) -> Result<usize, Refusal> {
     calls::open(pile, head).result()
 }
+
+/// A key's ten words into `words`; how many they are.
+pub fn pack(key: &[u8], words: &mut [u16; 10]) -> Result<usize, Refusal> {
+    calls::pack(key, words).result()
+}
+
+/// The sixteen bytes of a key's words into the front of `out`; how many they are.
+pub fn unpack(words: &[u16], out: &mut [u8]) -> Result<usize, Refusal> {
+    calls::unpack(words, out).result()
+}
+
+/// One holder's card of a key into the front of `out`; the number of blocks. Of `d` the secret is not lent.
+pub fn deal_key(d: &Deal, key: &[u8], holder: usize, out: &mut [u8]) -> Result<usize, Refusal> {
+    calls::deal_key(d, key, holder, out).result()
+}
+
+/// The key of a pile into the front of `out`; the number of its bytes.
+pub fn join_key(pile: &[u8], out: &mut [u8]) -> Result<usize, Refusal> {
+    calls::join_key(pile, out).result()
+}

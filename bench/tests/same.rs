@@ -1,26 +1,9 @@
 //! The proved library against the independent implementation: the same answers, and the same content of every lent buffer.
 use bench::inputs;
+use bench::met::Met;
 use bench::numbers::Numbers;
 use bench::reference::{self, Deal, Refusal, BLOCK};
 use bench::unit;
-use std::collections::BTreeMap;
-
-/// How often each refusal was met: a test that never meets one has not tested it.
-#[derive(Default)]
-struct Met(BTreeMap<usize, usize>);
-
-impl Met {
-    fn note<T>(&mut self, answer: &Result<T, Refusal>) {
-        *self.0.entry(answer.as_ref().map_or_else(|r| r.number, |_| 0)).or_default() += 1;
-    }
-
-    fn shows(&self, numbers: &[usize]) {
-        println!("answers by number: {:?}", self.0);
-        for number in numbers {
-            assert!(self.0.contains_key(number), "refusal {number} was never met");
-        }
-    }
-}
 
 #[test]
 fn policies() {

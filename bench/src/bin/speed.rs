@@ -67,6 +67,58 @@ fn pieces(d: &Deal) -> Vec<Vec<u8>> {
     blocks
 }
 
+/// The four calls that have a key, by the policy of a deal.
+fn keys(d: &Deal) {
+    let key: [u8; 16] = std::array::from_fn(|i| (i * 37 + 200) as u8);
+    let packed = reference::pack(&key).unwrap();
+    let mut words = [0; 10];
+    compare(
+        "packing a key",
+        || {
+            black_box(unit::pack(black_box(&key), &mut words)).ok();
+        },
+        || {
+            black_box(reference::pack(black_box(&key))).ok();
+        },
+    );
+    assert_eq!(words, packed);
+    let (mut ours, mut theirs) = ([0; 16], [0; 16]);
+    compare(
+        "unpacking a key",
+        || {
+            black_box(unit::unpack(black_box(&packed), &mut ours)).ok();
+        },
+        || {
+            black_box(reference::unpack(black_box(&packed), &mut theirs)).ok();
+        },
+    );
+    assert_eq!((ours, theirs), (key, key));
+    let d = Deal { secret: packed.to_vec(), random: d.random[..d.random.len() / 16 * 10].to_vec(), ..d.clone() };
+    let (mut ours, mut theirs) = (vec![0; 35 * BLOCK], vec![0; 35 * BLOCK]);
+    compare(
+        "dealing a key's card of 35 blocks",
+        || {
+            black_box(unit::deal_key(black_box(&d), &key, 3, &mut ours)).ok();
+        },
+        || {
+            black_box(reference::deal_key(black_box(&d), &key, 3, &mut theirs)).ok();
+        },
+    );
+    assert_eq!(ours, theirs);
+    let pile = pieces(&d).concat();
+    let (mut ours, mut theirs) = ([0; 16], [0; 16]);
+    compare(
+        "joining 70 blocks of 70 pieces to a key",
+        || {
+            black_box(unit::join_key(black_box(&pile), &mut ours)).ok();
+        },
+        || {
+            black_box(reference::join_key(black_box(&pile), &mut theirs)).ok();
+        },
+    );
+    assert_eq!((ours, theirs), (key, key));
+}
+
 fn join(name: &str, pile: &[u8]) {
     let (mut ours, mut theirs) = ([0; 16], [0; 16]);
     assert_eq!(unit::join(pile, &mut ours), reference::join(pile, &mut theirs));
@@ -138,6 +190,7 @@ fn main() {
         },
     );
     assert_eq!(ours, theirs);
+    keys(&d);
     let all = pieces(&d);
     let many: Vec<u8> = (0..560).flat_map(|i| all[i % 70].clone()).collect();
     join("joining 560 blocks of 70 pieces", &many);

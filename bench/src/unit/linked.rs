@@ -29,6 +29,24 @@ extern "C" {
     fn titmeadow_join(pile: *const u8, length: usize, secret: *mut u16, room: usize) -> Answer;
     fn titmeadow_join_by_differences(pile: *const u8, length: usize, secret: *mut u16, room: usize) -> Answer;
     fn titmeadow_open(pile: *const u8, length: usize, head: *mut u16) -> Answer;
+    fn titmeadow_pack(key: *const u8, length: usize, words: *mut u16) -> Answer;
+    fn titmeadow_unpack(words: *const u16, count: usize, key: *mut u8, room: usize) -> Answer;
+    fn titmeadow_deal_key(
+        people: usize,
+        required: *const u16,
+        required_count: usize,
+        forbidden: *const u16,
+        forbidden_count: usize,
+        deal: usize,
+        holder: usize,
+        key: *const u8,
+        length: usize,
+        random: *const u16,
+        random_count: usize,
+        card: *mut u8,
+        room: usize,
+    ) -> Answer;
+    fn titmeadow_join_key(pile: *const u8, length: usize, key: *mut u8, room: usize) -> Answer;
 }
 
 pub fn plan(people: usize, required: &[u16], forbidden: &[u16], groups: &mut [u16; 70]) -> Answer {
@@ -65,4 +83,36 @@ pub fn join_by_differences(pile: &[u8], out: &mut [u16]) -> Answer {
 
 pub fn open(pile: &[u8], head: &mut [u16; 7]) -> Answer {
     unsafe { titmeadow_open(pile.as_ptr(), pile.len(), head.as_mut_ptr()) }
+}
+
+pub fn pack(key: &[u8], words: &mut [u16; 10]) -> Answer {
+    unsafe { titmeadow_pack(key.as_ptr(), key.len(), words.as_mut_ptr()) }
+}
+
+pub fn unpack(words: &[u16], out: &mut [u8]) -> Answer {
+    unsafe { titmeadow_unpack(words.as_ptr(), words.len(), out.as_mut_ptr(), out.len()) }
+}
+
+pub fn deal_key(d: &Deal, key: &[u8], holder: usize, out: &mut [u8]) -> Answer {
+    unsafe {
+        titmeadow_deal_key(
+            d.people,
+            d.required.as_ptr(),
+            d.required.len(),
+            d.forbidden.as_ptr(),
+            d.forbidden.len(),
+            d.number,
+            holder,
+            key.as_ptr(),
+            key.len(),
+            d.random.as_ptr(),
+            d.random.len(),
+            out.as_mut_ptr(),
+            out.len(),
+        )
+    }
+}
+
+pub fn join_key(pile: &[u8], out: &mut [u8]) -> Answer {
+    unsafe { titmeadow_join_key(pile.as_ptr(), pile.len(), out.as_mut_ptr(), out.len()) }
 }

@@ -90,3 +90,20 @@ pub fn join_by_differences(pile: &[u8], out: &mut [u16]) -> Answer {
 pub fn open(pile: &[u8], head: &mut [u16; 7]) -> Answer {
     ask_words(4, [0; 3], [pile, &[], &[], &[]], head)
 }
+
+pub fn pack(key: &[u8], words: &mut [u16; 10]) -> Answer {
+    ask_words(6, [0; 3], [key, &[], &[], &[]], words)
+}
+
+pub fn unpack(words: &[u16], out: &mut [u8]) -> Answer {
+    ask(7, [0; 3], [&bytes(words), &[], &[], &[]], out)
+}
+
+pub fn deal_key(d: &Deal, key: &[u8], holder: usize, out: &mut [u8]) -> Answer {
+    let lists = [&d.required, &d.forbidden, &d.random].map(|words| bytes(words));
+    ask(8, [d.people, d.number, holder], [&lists[0], &lists[1], key, &lists[2]], out)
+}
+
+pub fn join_key(pile: &[u8], out: &mut [u8]) -> Answer {
+    ask(9, [0; 3], [pile, &[], &[], &[]], out)
+}

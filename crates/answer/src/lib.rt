@@ -27,6 +27,7 @@ pub enum Kind {
     Short,
     Text,
     Lone,
+    NotKey,
 }
 
 // A refusal: its kind and its two places, each 0 where SCOPE 6.2 names none.
@@ -69,6 +70,7 @@ pub fn number_of(k: Kind) -> usize
         Kind::Short => 20,
         Kind::Text => 21,
         Kind::Lone => 22,
+        Kind::NotKey => 23,
     }
 }
 

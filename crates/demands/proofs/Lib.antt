@@ -13,5 +13,6 @@ pub mod AnswerLaws
 pub mod HideLaws
 pub mod RowLaws
 pub mod Demand3
+pub mod Keys
 pub mod ReaderLaws
 pub mod Readings

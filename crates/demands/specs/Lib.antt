@@ -2,5 +2,6 @@ pub mod Group
 pub mod Demand1
 pub mod Demand2
 pub mod Demand3
+pub mod Keys
 pub mod Reader
 pub mod Readings

@@ -1,18 +1,18 @@
--- The line of a pile, case by case; and the words of a secret at the front of the sixteen that were lent.
+-- The line of a pile, case by case.
 -- Assumes nothing.
 use mathlib.Core.Path.{_≡_, sym, ap, _∙_}
-use mathlib.Core.List.{List, [], _++_}
+use mathlib.Core.List.{List, []}
 use Prim.Native.Nat.{ℕ, _≤_, _<_}
 use native.Mathlib.Omega.{arith}
-use lib.ListN.{length, take, drop, replicate, length-append}
-use lib.Seq.{take-at, take-all}
+use lib.ListN.{length, take, replicate}
+use lib.Seq.{take-all}
 use borrow.Author.Tests.{lt-ltb, le-ltb}
 use Rattle.answer.specs.Outcome.{Outcome, done, refused}
 use Rattle.answer.specs.Checks.{firstFail}
 use Rattle.answer.proofs.CheckLaws.{given, not-given}
 use Rattle.joining.specs.Joined.{joining, joinedInto}
 use Rattle.joining.specs.Secret.{secret}
-use Rattle.joining.proofs.Laws.{then-joins, result-writes}
+use Rattle.joining.proofs.SixteenLaws.{fits, count, secret-front}
 use Rattle.print.specs.Lines.{refusedLine, secretLine}
 use Rattle.joined_line.specs.Joined.{tooLong, programJoins, lineOf, joinedLine}
 
@@ -31,25 +31,8 @@ is-refused pile m a b h e = said pile (refused m a b) h e
 
 -- ---- the secret of a pile that joins, in the first w of sixteen words
 module _ (pile : List ℕ) (w : ℕ) (words : List ℕ) (e : joining pile 16 ≡ done w) (is : words ≡ joinedInto pile (replicate 16 0)) where
-  fits : w ≤ 16
-  fits = let t = then-joins pile 16 w e in omega (arith, t .fits, t .is)
-
-  count : length (secret pile) ≡ w
-  count = result-writes pile (replicate 16 0) w e .0
-
-  whole : words ≡ secret pile ++ drop w (replicate 16 0)
-  whole = is ∙ result-writes pile (replicate 16 0) w e .1
-
-  secret-front : take w words ≡ secret pile
-  secret-front = ap (take w) whole ∙ take-at (secret pile) (drop w (replicate 16 0)) w count
-
-  pub secret-fits : w ≤ length words
-  secret-fits = omega (arith, ap length whole ∙ length-append (secret pile) (drop w (replicate 16 0)), count)
-
-  pub secret-counts : w ≡ length (take w words)
-  secret-counts = sym (ap length secret-front ∙ count)
-
   pub is-secret : length pile ≤ 65536 → secretLine (take 16 (take w words)) ≡ joinedLine pile
   is-secret h =
-      ap (λ (l : List ℕ). secretLine (take 16 l)) secret-front ∙ ap secretLine (take-all 16 (secret pile) (omega (arith, count, fits)))
+      ap (λ (l : List ℕ). secretLine (take 16 l)) (secret-front pile w words e is)
+      ∙ ap secretLine (take-all 16 (secret pile) (omega (arith, count pile w words e is, fits pile w words e is)))
       ∙ said pile (done w) h e

@@ -11,3 +11,4 @@ pub mod OrderLaws
 pub mod WrittenLaws
 pub mod Laws
 pub mod Joiners
+pub mod SixteenLaws

@@ -41,7 +41,7 @@ module _ (pile : List ℕ) where
       (append-assoc (everyBlock pile) (wholeLines pile) (noRoom (ownWidth pile) (ownWidth pile) room ∷ []))
 
   -- ---- the lines of blocks have the numbers 15, 16 and 17
-  blocks-without : (m n a : ℕ) → eqb m 15 ≡ false → eqb m 16 ≡ false → eqb m 17 ≡ false → Without m (linesFrom pile a n)
+  pub blocks-without : (m n a : ℕ) → eqb m 15 ≡ false → eqb m 16 ≡ false → eqb m 17 ≡ false → Without m (linesFrom pile a n)
   unfolding linesFrom some
   blocks-without m zero a x y z = refl
   blocks-without m (suc n) a x y z = rw (x, y, z) (blocks-without m n (a + 1) x y z)

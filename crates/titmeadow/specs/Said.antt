@@ -9,6 +9,7 @@ use Rattle.planning.specs.Policy.{Policy}
 use Rattle.planning.specs.Planned.{planned}
 use Rattle.block.specs.Layout.{frontWords}
 use Rattle.block.specs.Open.{opening}
+use Rattle.packing.specs.Key.{packed, packing}
 use Rattle.titmeadow.specs.declared.Said.{Said}
 
 -- a result: number 0, its value in a; a refusal: its number and its two places
@@ -28,3 +29,12 @@ groupsInto p old = left (planned p) (groups (p .people) (p .required)) old
 -- words 1 to 7 in the seven places that were lent; refused, nothing changes
 abbrev pub headInto : List ℕ → List ℕ → List ℕ
 headInto pile old = left (opening pile) (frontWords pile) old
+
+-- what a call leaves where its result fills all that was lent: that, or, refused, what there was
+abbrev pub filled : {A : Type 0} → Outcome A → List ℕ → List ℕ → List ℕ
+filled (done v) new old = new
+filled (refused m a b) new old = old
+
+-- the ten words of a key in the ten places that were lent; refused, nothing changes
+abbrev pub wordsInto : List ℕ → List ℕ → List ℕ
+wordsInto key old = filled (packing key) (packed key) old

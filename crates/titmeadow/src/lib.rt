@@ -15,7 +15,10 @@ ghost use Rattle.block.specs.Open.{opening, wordsOf};
 ghost use Rattle.dealing.specs.Deal.{dealFrom};
 ghost use Rattle.dealing.specs.Dealt.{dealing, dealtInto};
 ghost use Rattle.joining.specs.Joined.{joining, joinedInto};
-ghost use Rattle.titmeadow.specs.Said.{said, seven, groupsInto, headInto};
+ghost use Rattle.packing.specs.Key.{packing, unpacking, unpackedInto};
+ghost use Rattle.key.specs.Dealt.{keyDeal};
+ghost use Rattle.key.specs.Joined.{joiningKey, joinedKeyInto};
+ghost use Rattle.titmeadow.specs.Said.{said, seven, groupsInto, headInto, wordsInto};
 ghost use Rattle.titmeadow.specs.Inner.{numberOf};
 
 // Number 0: a result, its value in a; else a refusal and its two places.
@@ -174,4 +177,56 @@ pub extern "C" fn titmeadow_open(pile: &[u8], head: &mut [u16; 7]) -> Said
         }
         Opened::Refused(r) => said_of(Answer::Refused(r)),
     }
+}
+
+// The ten words of a key into the ten places lent; the result is 10.
+#[no_mangle]
+pub extern "C" fn titmeadow_pack(key: &[u8], words: &mut [u16; 10]) -> Said
+    ensures says { λ r. ⌜ r ≡ said (packing (now (key .entry))) ⌝ }
+    ensures leaves { λ r. ⌜ now (words .exit) ≡ wordsInto (now (key .entry)) (now (words .entry)) ⌝ }
+{
+    let packed = packing::pack(key);
+    let answer = packed.answer;
+    if let Answer::Refused(r) = answer {
+        return said_of(Answer::Refused(r));
+    }
+    let ten = packed.words;
+    *words = ten;
+    said_of(Answer::Done(10))
+}
+
+// The key of ten words into the front of `key`; the result is 16.
+#[no_mangle]
+pub extern "C" fn titmeadow_unpack(words: &[u16], key: &mut [u8]) -> Said
+    ensures says { λ r. ⌜ r ≡ said (unpacking (now (words .entry)) (length (now (key .entry)))) ⌝ }
+    ensures leaves { λ r. ⌜ now (key .exit) ≡ unpackedInto (now (words .entry)) (now (key .entry)) ⌝ }
+{
+    said_of(packing::unpack(words, key))
+}
+
+// One holder's card of a key into the front of `card`: the number of blocks.
+#[no_mangle]
+pub extern "C" fn titmeadow_deal_key(
+    people: usize,
+    required: &[u16],
+    forbidden: &[u16],
+    deal: usize,
+    holder: usize,
+    key: &[u8],
+    random: &[u16],
+    card: &mut [u8],
+) -> Said
+    ensures says { λ r. ⌜ r ≡ said (dealing (keyDeal (policyOf people (now (required .entry)) (now (forbidden .entry))) deal (now (key .entry)) (now (random .entry))) holder (length (now (card .entry)))) ⌝ }
+    ensures leaves { λ r. ⌜ now (card .exit) ≡ dealtInto (keyDeal (policyOf people (now (required .entry)) (now (forbidden .entry))) deal (now (key .entry)) (now (random .entry))) holder (now (card .entry)) ⌝ }
+{
+    said_of(key::deal_key(people, required, forbidden, deal, holder, key, random, card))
+}
+
+// The key of a pile into the front of `key`; the result is 16.
+#[no_mangle]
+pub extern "C" fn titmeadow_join_key(pile: &[u8], key: &mut [u8]) -> Said
+    ensures says { λ r. ⌜ r ≡ said (joiningKey (now (pile .entry)) (length (now (key .entry)))) ⌝ }
+    ensures leaves { λ r. ⌜ now (key .exit) ≡ joinedKeyInto (now (pile .entry)) (now (key .entry)) ⌝ }
+{
+    said_of(key::join_key(pile, key))
 }

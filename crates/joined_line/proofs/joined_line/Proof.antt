@@ -8,7 +8,8 @@ use lib.ListN.{length, replicate}
 use Rattle.answer.specs.Outcome.{outcome, done}
 use Rattle.joining.specs.Joined.{joining, joinedInto}
 use Rattle.print.specs.Written.{Prints}
-use Rattle.joined_line.proofs.JoinedLaws.{is-long, is-secret, is-refused, secret-fits, secret-counts}
+use Rattle.joining.proofs.SixteenLaws.{secret-fits, secret-counts}
+use Rattle.joined_line.proofs.JoinedLaws.{is-long, is-secret, is-refused}
 use Rattle.joined_line.proofs.joined_line.Statement.{statement}
 use Rattle.joined_line.proofs.joined_line.Tie as tie
 

@@ -1,0 +1,3 @@
+pub mod Dealt
+pub mod Joined
+pub mod Laws
