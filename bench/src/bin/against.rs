@@ -118,11 +118,12 @@ fn main() {
         exit(2)
     };
     let top = Path::new(env!("CARGO_MANIFEST_DIR")).parent().unwrap();
+    let at = |path: &str| top.join(path).to_str().unwrap().to_string();
     let folder = PathBuf::from(&words[2]);
     let files = stored(top);
     let mut trial = Trial {
         theirs: words[3..].to_vec(),
-        ours: vec![top.join("target/run/join").to_str().unwrap().to_string()],
+        ours: vec![at("tools/x86-64"), "run".to_string(), at("target/run/join")],
         folder: folder.clone(),
         of: files.len() + 64 + count,
         piles: 0,
