@@ -65,7 +65,7 @@ enum titmeadow_refusal {
     TITMEADOW_UNREAD = 15,   /* some word of a block exceeds 32748; a: the block, b: the first such word */
     TITMEADOW_CHECK = 16,    /* word 256 of a block is not its check; a: the block */
     TITMEADOW_HEADER = 17,   /* some word from 1 to 255 of a block is not as the layout has it; a: the block, b: the first such word */
-    TITMEADOW_MIXED = 18,    /* a block is unlike block 1 in word 2, 4, 5 or 6; a: the first such block */
+    TITMEADOW_MIXED = 18,    /* blocks differ in word 2, 4, 5 or 6; a: the first outside the largest heap of blocks alike in these, of equal heaps the earliest */
     TITMEADOW_CONFLICT = 19, /* a block has an earlier one's piece, and other values; a: the first such block, b: the first such earlier one */
     TITMEADOW_SHORT = 20,    /* of the pieces 1 to k not all are there; a: how many different ones are, b: k */
     TITMEADOW_TEXT = 21,     /* the text of a policy cannot be read (the listing program only); a: the first bad line */

@@ -174,6 +174,10 @@ static void joining(void) {
         joined(bad_blocks[i].what, all, KEY, bad_blocks[i].answer, NULL);
         joined(bad_blocks[i].what, all, 0, bad_blocks[i].answer, NULL);
     }
+    lay(words_of_0, WORDS);
+    put(pile[0], 2, 8);
+    put_check(pile[0]);
+    joined("an old card on top", all, KEY, refused(TITMEADOW_MIXED, 1, 0), NULL);
     joined("no blocks", 0, KEY, refused(TITMEADOW_SHORT, 0, 0), NULL);
     joined("no blocks, and no room", 0, 0, refused(TITMEADOW_SHORT, 0, 0), NULL);
 

@@ -102,6 +102,69 @@ static void blocks(void) {
     opened("a slot of 32748", BLOCK, done(TITMEADOW_HEAD_WORDS), head);
 }
 
+/* Another deal than that of the three blocks: word 2, 4, 5 or 6 of them is set to this value. */
+static const struct {
+    const char *what;
+    size_t i, value;
+} other_deals[] = {
+    {"another deal number", 2, 8},
+    {"another high byte of the deal number", 2, 256 + 7},
+    {"more people", 4, 5},
+    {"more pieces", 5, 4},
+    {"seventy pieces", 5, TITMEADOW_PIECES_MOST},
+    {"more words", 6, 2},
+    {"sixteen words", 6, TITMEADOW_SECRET_MOST},
+};
+
+/* Old blocks, of the other deal, among new ones. Blocks of one deal are a heap. The pile is taken to be of the deal that has the most blocks, of
+ * equal heaps that which begins first; the place is that of the first block of another deal. */
+static void heaps(const char *what, size_t i, size_t value) {
+    uint8_t *const one = three[0], *const two = three[1], *const last = three[2];
+    uint8_t old[BLOCK], older[BLOCK], third[BLOCK];
+    changed(old, two, i, value, ANEW);
+    changed(older, last, i, value, ANEW);
+    changed(third, one, 2, 9, ANEW);
+    JOINED(what, 16, TITMEADOW_MIXED, 1, 0, old, one, two);               /* on top: heaps of 1 and 2 */
+    JOINED(what, 16, TITMEADOW_MIXED, 1, 0, old, older, one, two, last);  /* a card of two blocks on top: 2 and 3 */
+    JOINED(what, 16, TITMEADOW_MIXED, 2, 0, one, old, last);              /* in the middle */
+    JOINED(what, 16, TITMEADOW_MIXED, 3, 0, one, last, old);              /* at the end */
+    JOINED(what, 16, TITMEADOW_MIXED, 2, 0, one, old);                    /* heaps of 1 and 1, in both orders */
+    JOINED(what, 16, TITMEADOW_MIXED, 2, 0, old, one);
+    JOINED(what, 16, TITMEADOW_MIXED, 3, 0, one, two, old, older);        /* 2 and 2, in both orders */
+    JOINED(what, 16, TITMEADOW_MIXED, 3, 0, old, older, one, two);
+    JOINED(what, 16, TITMEADOW_MIXED, 2, 0, old, one, two, older);        /* 2 and 2, the old ones around the others */
+    JOINED(what, 16, TITMEADOW_MIXED, 1, 0, third, one, old, older, two); /* 1, 2 and 2 */
+    JOINED(what, 16, TITMEADOW_MIXED, 1, 0, third, old, one, two);        /* 1, 1 and 2 */
+    JOINED(what, 16, TITMEADOW_MIXED, 2, 0, one, third, two, old);        /* 2, 1 and 1 */
+    JOINED(what, 16, TITMEADOW_MIXED, 2, 0, old, one, third);             /* every block of another deal */
+}
+
+/* 560 blocks: `first` of deal 8, the others of deal 7; and as many deals as blocks. */
+static void many_heaps(void) {
+    const struct {
+        const char *what;
+        size_t first, a;
+    } cases[] = {
+        {"heaps of 280 and 280", 280, 281},
+        {"heaps of 279 and 281", 279, 1},
+        {"heaps of 281 and 279", 281, 282},
+        {"heaps of 255 and 305", 255, 1}, /* 305 in a byte would be 49 */
+        {"heaps of 305 and 255", 305, 306},
+        {"heaps of 1 and 559", 1, 1},
+        {"heaps of 559 and 1", 559, 560},
+    };
+    for (size_t i = 0; i < COUNT(cases); i++) {
+        for (size_t at = 0; at < TITMEADOW_PILE_MOST; at++)
+            changed(pile[at], three[at % 3], 2, at < cases[i].first ? 8 : 7, ANEW);
+        joined(cases[i].what, TITMEADOW_PILE_MOST * BLOCK, 16, refused(TITMEADOW_MIXED, cases[i].a, 0), NULL);
+    }
+    for (size_t at = 0; at < TITMEADOW_PILE_MOST; at++)
+        changed(pile[at], three[at % 3], 2, at + 1, ANEW);
+    joined("560 deals", TITMEADOW_PILE_MOST * BLOCK, 16, refused(TITMEADOW_MIXED, 2, 0), NULL);
+    changed(pile[TITMEADOW_PILE_MOST - 1], three[0], 2, TITMEADOW_PILE_MOST - 1, ANEW);
+    joined("559 deals, the last two blocks of one", TITMEADOW_PILE_MOST * BLOCK, 16, refused(TITMEADOW_MIXED, 1, 0), NULL);
+}
+
 static void joining(void) {
     uint8_t *const one = three[0], *const two = three[1], *const last = three[2];
     uint8_t other[BLOCK], second[BLOCK], wide[2][BLOCK];
@@ -120,9 +183,10 @@ static void joining(void) {
 
     JOINED("another deal number, and a conflict", 16, TITMEADOW_MIXED, 4, 0, one, changed(other, one, 8, 1247, ANEW), last,
            changed(second, two, 2, 8, ANEW));
-    JOINED("other people", 16, TITMEADOW_MIXED, 2, 0, one, changed(other, two, 4, 5, ANEW), last);
-    JOINED("other pieces", 16, TITMEADOW_MIXED, 3, 0, one, last, changed(other, two, 5, 4, ANEW));
-    JOINED("other words", 16, TITMEADOW_MIXED, 3, 0, one, last, changed(other, two, 6, 2, ANEW));
+    JOINED("another deal, and no room", 0, TITMEADOW_MIXED, 3, 0, one, last, changed(other, two, 2, 8, ANEW));
+    for (size_t i = 0; i < COUNT(other_deals); i++)
+        heaps(other_deals[i].what, other_deals[i].i, other_deals[i].value);
+    many_heaps();
     JOINED("another value of piece 1", 16, TITMEADOW_CONFLICT, 3, 1, one, two, changed(other, one, 8, 1247, ANEW));
     JOINED("another value of piece 2, then of piece 1", 16, TITMEADOW_CONFLICT, 4, 2, one, two, two, changed(second, two, 8, 1273, ANEW),
            changed(other, one, 8, 1247, ANEW));

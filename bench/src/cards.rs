@@ -31,12 +31,15 @@ pub fn dealt(d: &Deal, holder: usize) -> Vec<u8> {
     out
 }
 
-/// The files of samples/ that are dealt: the six cards of a deal by Example 1, and a pile of four of them with one dirty slot.
+/// The files of samples/ that are dealt: the six cards of a deal by Example 1, a pile of four of them with one dirty slot, and holder 2's card of
+/// an earlier deal by the same policy.
 pub fn samples() -> Vec<(String, Vec<u8>)> {
     let d = deal_of(6, example_1(), 1987, &[1234, 0, 32748, 5678], 7);
     let mut files: Vec<_> = (1..=6).map(|holder| (format!("card{holder}"), dealt(&d, holder))).collect();
     let mut pile = [1, 2, 5, 6].map(|holder| dealt(&d, holder)).concat();
     with_word(&mut pile[4 * BLOCK..5 * BLOCK], 9, 32767, false);
     files.push(("dirty".to_string(), pile));
+    let earlier = deal_of(6, example_1(), 1986, &[4321, 0, 1, 8765], 8);
+    files.push(("old2".to_string(), dealt(&earlier, 2)));
     files
 }

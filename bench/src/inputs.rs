@@ -1,4 +1,5 @@
 //! Policies, deals and piles, good and damaged, for tests and benchmarks.
+use crate::mixed;
 use crate::numbers::Numbers;
 use crate::reference::{bytes_of, check, deal, plan, words_of, Deal, BLOCK};
 
@@ -139,7 +140,7 @@ pub fn damage(n: &mut Numbers, d: &Deal, pile: &mut Vec<Vec<u8>>) {
     }
 }
 
-/// A pile: cards of a group, in order or shuffled, repeated, cut, damaged.
+/// A pile: cards of a group, in order or shuffled, repeated, cut, mixed with other deals, damaged.
 pub fn pile(n: &mut Numbers, d: &Deal) -> Vec<u8> {
     let group = if n.once_in(2) { (1 << d.people) - 1 } else { n.below(1 << d.people) };
     let mut pile = blocks(d, group);
@@ -156,6 +157,9 @@ pub fn pile(n: &mut Numbers, d: &Deal) -> Vec<u8> {
     if n.once_in(6) && !pile.is_empty() {
         let keep = n.below(pile.len()) + 1;
         pile.truncate(keep);
+    }
+    if n.once_in(10) && !pile.is_empty() {
+        pile = mixed::pile(n, &pile, 12).1;
     }
     if !n.once_in(3) {
         for _ in 0..1 + n.below(2) {

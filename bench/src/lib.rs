@@ -4,6 +4,7 @@
 pub mod cards;
 pub mod inputs;
 pub mod met;
+pub mod mixed;
 pub mod numbers;
 pub mod reference;
 pub mod unit;

@@ -18,3 +18,24 @@ impl Met {
         }
     }
 }
+
+/// How often each kind of input was met, by its name.
+#[derive(Default)]
+pub struct Kinds(BTreeMap<String, usize>);
+
+impl Kinds {
+    pub fn note(&mut self, kind: impl Into<String>) {
+        *self.0.entry(kind.into()).or_default() += 1;
+    }
+
+    /// Prints them; each of these was met so many times at least.
+    pub fn shows(&self, kinds: &[&str], least: usize) {
+        for (kind, times) in &self.0 {
+            println!("{times:>8} {kind}");
+        }
+        for kind in kinds {
+            let times = self.0.get(*kind).copied().unwrap_or(0);
+            assert!(times >= least, "{kind}: met {times} times");
+        }
+    }
+}

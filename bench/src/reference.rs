@@ -1,10 +1,12 @@
 //! SCOPE written a second time: nothing here is shared with the proved code.
 //! Where the proved code and this disagree, SCOPE decides.
 
+mod heaps;
 mod joined;
 mod keys;
 mod programs;
 
+pub use heaps::{heaps, outside, Label};
 pub use joined::{by_differences, join, join_by_differences, weights};
 pub use keys::{deal_key, join_key, pack, unpack};
 pub use programs::{joining, listing, read_policy};
@@ -249,8 +251,10 @@ fn complete(pile: &[u8], room: usize) -> Result<Complete, Refusal> {
     if blocks.is_empty() {
         return refuse(20, 0, 0);
     }
-    let deal = |block: &[u16; 23]| [block[1], block[3], block[4], block[5]];
-    if let Some(at) = blocks.iter().position(|block| deal(block) != deal(&blocks[0])) {
+    let label = |block: &[u16; 23]| [block[1], block[3], block[4], block[5]];
+    if blocks.iter().any(|block| label(block) != label(&blocks[0])) {
+        let labels: Vec<Label> = blocks.iter().map(label).collect();
+        let at = outside(&labels).expect("a block outside the largest heap, where two are unlike");
         return refuse(18, at + 1, 0);
     }
     let (k, w) = (blocks[0][4] as usize, blocks[0][5] as usize);

@@ -1,6 +1,7 @@
 //! The edges of SCOPE's ranges, on the library: 560 and 561 blocks, an output too short by one word and by one byte, slots and words
 //! of 32748 and 32749. What is expected is written here, from SCOPE.
 use bench::inputs::{blocks, card, with_word};
+use bench::mixed::relabel;
 use bench::reference::{block_words, bytes_of, Deal, Refusal, BLOCK};
 use bench::unit;
 
@@ -94,6 +95,53 @@ fn the_first_dirty_slot_is_named() {
             assert_eq!(unit::open(&pile[BLOCK..], &mut head), refused(15, 1, first));
             assert_eq!((out, head), ([9; 1], [9; 7]));
         }
+    }
+}
+
+/// MIXED names the first block outside the largest heap, of equal heaps the earliest; the deals here differ in one word each time.
+#[test]
+fn the_block_outside_the_own_heap() {
+    let three = blocks(&p7(), 3);
+    let is = |what: &str, heaps: &[usize], other: [u16; 4], a: usize| {
+        let labels = [[7, 4, 3, 1], other, [7, 8, 3, 1]];
+        let pile: Vec<u8> = heaps.iter().enumerate().flat_map(|(at, heap)| relabel(&three[at % 3], labels[*heap])).collect();
+        for join in JOINERS {
+            let mut out = [9; 2];
+            assert_eq!(join(&pile, &mut out), refused(18, a, 0), "{what}");
+            assert_eq!(out, [9; 2]);
+        }
+    };
+    // the deal number, by its low byte and by its high one; n, k and w, up and down
+    for other in [[8, 4, 3, 1], [263, 4, 3, 1], [7, 5, 3, 1], [7, 2, 3, 1], [7, 4, 70, 1], [7, 4, 3, 2], [7, 4, 3, 16]] {
+        is("an old card on top", &[1, 0, 0], other, 1);
+        is("an old card in the middle", &[0, 1, 0], other, 2);
+        is("an old card at the end", &[0, 0, 1], other, 3);
+        is("two equal heaps", &[0, 0, 1, 1], other, 3);
+        is("two equal heaps, the other first", &[1, 1, 0, 0], other, 3);
+        is("two equal heaps, one around the other", &[1, 0, 0, 1], other, 2);
+        is("three heaps, the last the largest", &[1, 2, 0, 0, 0, 2], other, 1);
+        is("three heaps, two of them equal, the smallest on top", &[2, 1, 0, 0, 1], other, 1);
+        is("three blocks, three deals", &[0, 1, 2], other, 2);
+    }
+    let heaps = |front: usize, back: usize| [vec![1; front], vec![0; back]].concat();
+    is("280 and 280", &heaps(280, 280), [8, 4, 3, 1], 281);
+    is("279 and 281", &heaps(279, 281), [8, 4, 3, 1], 1);
+    is("281 and 279", &heaps(281, 279), [8, 4, 3, 1], 282);
+    // 300 in a byte would be 44
+    is("250 and 300", &heaps(250, 300), [8, 4, 3, 1], 1);
+    is("300 and 250", &heaps(300, 250), [8, 4, 3, 1], 301);
+}
+
+#[test]
+fn as_many_deals_as_blocks() {
+    let three = blocks(&p7(), 3);
+    let pile: Vec<u8> = (0..560).flat_map(|at| relabel(&three[at % 3], [1 + at as u16, 4, 3, 1])).collect();
+    // a block of deal 559, which is there already: the one heap of two, which begins with block 1, or else with block 559
+    let (most, again) = (&pile[..559 * BLOCK], &pile[558 * BLOCK..559 * BLOCK]);
+    for join in JOINERS {
+        assert_eq!(join(&pile, &mut [0]), refused(18, 2, 0));
+        assert_eq!(join(&[again, most].concat(), &mut [0]), refused(18, 2, 0));
+        assert_eq!(join(&[most, again].concat(), &mut [0]), refused(18, 1, 0));
     }
 }
 

@@ -92,6 +92,35 @@ fn p11_and_p12() {
     assert_eq!(out, [1234, 9, 9]);
 }
 
+/// Of which deal each block of a pile is, and which block, from 0, is the first outside the own heap. The pile of one deal has none.
+#[test]
+fn heaps_and_the_first_block_outside() {
+    let of = |numbers: &[u16]| outside(&numbers.iter().map(|number| [*number, 4, 3, 1]).collect::<Vec<_>>());
+    assert_eq!(of(&[]), None);
+    assert_eq!(of(&[7, 7, 7]), None);
+    // an old card on top, in the middle, at the end
+    assert_eq!(of(&[8, 7, 7]), Some(0));
+    assert_eq!(of(&[7, 8, 7]), Some(1));
+    assert_eq!(of(&[7, 7, 8]), Some(2));
+    // heaps that are equal: the one that begins first, in whichever order the deals come
+    assert_eq!(of(&[7, 7, 8, 8]), Some(2));
+    assert_eq!(of(&[8, 8, 7, 7]), Some(2));
+    assert_eq!(of(&[8, 7, 7, 8]), Some(1));
+    assert_eq!(of(&[9, 7, 8, 8, 7]), Some(0));
+    // three heaps, and as many heaps as blocks
+    assert_eq!(of(&[8, 9, 7, 7]), Some(0));
+    assert_eq!(of(&[7, 8, 9, 7]), Some(1));
+    assert_eq!(of(&[6, 7, 8, 9]), Some(1));
+    // each of the four words tells heaps apart
+    let one: Label = [7, 4, 3, 1];
+    for at in 0..4 {
+        let mut other = one;
+        other[at] += 1;
+        assert_eq!(outside(&[other, one, one]), Some(0));
+        assert_eq!(heaps(&[other, one, one]), vec![(other, 1), (one, 2)]);
+    }
+}
+
 #[test]
 fn eight_people_any_five() {
     let fives: Vec<u16> = (0..256).filter(|set: &u16| set.count_ones() == 5).collect();

@@ -1,6 +1,6 @@
 //! against SEED COUNT FOLDER COMMAND [ARGUMENT..]: a joining program beside target/run/join, which ./join runs, on the stored piles, on
-//! every group of the sample cards and on COUNT random piles, good and damaged. Prints where the two differ and keeps that pile in FOLDER;
-//! status 0 only where they never do. tools/against calls it, after ./join has built what it runs.
+//! every group of the sample cards, on an old card among them and on COUNT random piles, good and damaged. Prints where the two differ and
+//! keeps that pile in FOLDER; status 0 only where they never do. tools/against calls it, after ./join has built what it runs.
 use bench::inputs;
 use bench::numbers::Numbers;
 use bench::reference::joining;
@@ -125,7 +125,7 @@ fn main() {
         theirs: words[3..].to_vec(),
         ours: vec![at("tools/x86-64"), "run".to_string(), at("target/run/join")],
         folder: folder.clone(),
-        of: files.len() + 64 + count,
+        of: files.len() + 64 + 4 + count,
         piles: 0,
         differ: 0,
         answers: BTreeMap::new(),
@@ -141,6 +141,12 @@ fn main() {
         let name: String = holders.iter().map(|holder| format!("-{holder}")).collect();
         let pile: Vec<u8> = holders.iter().flat_map(|holder| cards[holder - 1].clone()).collect();
         trial.on(folder.join(format!("samples{name}")), &pile);
+    }
+    let old = std::fs::read(top.join("samples/old2")).unwrap();
+    for at in 0..=3 {
+        let mut pile = [1, 5, 6].map(|holder: usize| cards[holder - 1].clone()).to_vec();
+        pile.insert(at, old.clone());
+        trial.on(folder.join(format!("samples-old-behind-{at}")), &pile.concat());
     }
     let mut n = Numbers::new(seed);
     for at in 1..=count {

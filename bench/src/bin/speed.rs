@@ -1,7 +1,7 @@
 //! Benchmarks: the proved library against the independent Rust, in one run, both built for release; then its two joiners against each other.
 //! Median of many rounds; the two take turns within a round. Buffers are not cleared between calls.
 use bench::inputs;
-use bench::reference::{self, block_words, bytes_of, Deal, BLOCK};
+use bench::reference::{self, block_words, bytes_of, Deal, Refusal, BLOCK};
 use bench::unit;
 use std::hint::black_box;
 use std::time::Instant;
@@ -134,6 +134,18 @@ fn join(name: &str, pile: &[u8]) {
     );
 }
 
+/// Mixed piles as large as can be, all blocks true, up to MIXED: 560 deals of a block each, and two heaps of 280 whose blocks take turns.
+fn mixed() {
+    let values = secret();
+    let of_deal = |deal: u16, j: u16| bytes_of(&block_words([1987, deal, 1, 8, 70, 16, j], &values));
+    let unlike: Vec<u8> = (0..560).flat_map(|i| of_deal(1 + i, 1 + i % 70)).collect();
+    let turns: Vec<u8> = (0..560).flat_map(|i| of_deal(1 + i % 2, 1 + i % 70)).collect();
+    for (name, pile) in [("refusing 560 blocks, no two of one deal", unlike), ("refusing 560 blocks, two heaps of 280", turns)] {
+        assert_eq!(unit::join(&pile, &mut [0; 16]), Err(Refusal { number: 18, a: 2, b: 0 }));
+        join(name, &pile);
+    }
+}
+
 /// One block of each of k pieces, of sixteen words; any values are pieces of some secret.
 fn any_pieces(k: usize) -> Vec<u8> {
     let values = |j: usize| (0..16).map(|i| ((i * 7919 + j * j * 2047) % 32749) as u16).collect::<Vec<u16>>();
@@ -207,5 +219,6 @@ fn main() {
     let few = pieces(&d);
     let many: Vec<u8> = (0..560).flat_map(|i| few[i % few.len()].clone()).collect();
     join("joining 560 blocks of 20 pieces", &many);
+    mixed();
     joiners();
 }

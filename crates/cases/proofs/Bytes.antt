@@ -27,7 +27,7 @@ use Rattle.dealing.specs.Dealt.{badNumber, badHolder, badWidth, badSecret, badC
 use Rattle.dealing.proofs.Laws as law
 use Rattle.pile.specs.Blocks.{blocks, restFrom}
 use Rattle.block.specs.Deals.{sameDeal}
-use Rattle.joining.specs.Pile.{ownBlock, placeOf, differIn, present}
+use Rattle.joining.specs.Pile.{heapOf, inLargest, ownBlock, placeOf, differIn, present}
 use Rattle.pile.specs.Lines.{linesFrom, everyBlock}
 use Rattle.joining.specs.Checks.{mixedAt, contradicts, contradictedBy, conflictAt, pileLines}
 use Rattle.joining.specs.Joined.{joinLines, joining}
@@ -57,5 +57,5 @@ dealt out room =
 
 -- no output is too short for SHORT: ROOM comes after it
 pub short-two : (room : ℕ) → joining pile12 room ≡ refused 20 2 3
-unfolding joining joinLines pileLines linesFrom everyBlock mixedAt contradicts contradictedBy conflictAt blocks restFrom ownBlock sameDeal placeOf differIn present firstFail firstFrom firstAbove rangeAt valuesOf rightAt firstWrong card flat blockFor heldBy dealPieces valuesIn value planning.held holds groupsBy those maximalBy tight authorised some each inside member set blockBytes body run heldAt bytesOf checkOf weighted wordAt
+unfolding joining joinLines pileLines linesFrom everyBlock mixedAt contradicts contradictedBy conflictAt blocks restFrom heapOf inLargest ownBlock sameDeal placeOf differIn present firstFail firstFrom firstAbove rangeAt valuesOf rightAt firstWrong card flat blockFor heldBy dealPieces valuesIn value planning.held holds groupsBy those maximalBy tight authorised some each inside member set blockBytes body run heldAt bytesOf checkOf weighted wordAt
 short-two room = refl

@@ -25,7 +25,7 @@ use Rattle.pile.specs.Blocks.{blocks, restFrom, In, dealAt}
 use Rattle.joining.specs.Pile.{ownWidth, pieceAt, hasPiece, placeOf, valueOf, present, ownBlock}
 use Rattle.joining.specs.Laws.{Sound}
 use Rattle.joining.proofs.SoundLaws.{place-held}
-use Rattle.joining.proofs.PileLaws.{own-in}
+use Rattle.joining.proofs.HeapLaws.{own-in}
 use Rattle.demands.specs.Group.{Member, CardsOf, WholeCards, gathers, gathered}
 use Rattle.demands.specs.Demand2.{CardBlock}
 use Rattle.demands.proofs.GroupLaws.{gathers-by, gathers-who}

@@ -13,6 +13,8 @@ use Rattle.joining.specs.Pile.{ownPieces, ownWidth, valueAt}
 use Rattle.joining.specs.Joined.{joining, joinedInto}
 use Rattle.joining.specs.Secret.{secret}
 use Rattle.joining.specs.Laws as law
+use Rattle.joining.proofs.HeapLaws as heap
+use Rattle.joining.proofs.MixedLaws as mixed
 use Rattle.joining.proofs.ConflictLaws.{by-first, with-first}
 use Rattle.joining.proofs.PlaceLaws as place
 use Rattle.joining.proofs.SoundLaws as sound
@@ -49,6 +51,27 @@ mixed-places = place.mixed-places
 
 pub room-places : law.RoomPlaces
 room-places = place.room-places
+
+pub own-largest : law.OwnLargest
+own-largest pile some = (heap.own-in pile some, heap.own-largest pile some)
+
+pub own-earliest : law.OwnEarliest
+own-earliest = heap.own-earliest
+
+pub one-deal-own : law.OneDealOwn
+one-deal-own = heap.one-deal-own
+
+pub majority-own : law.MajorityOwn
+majority-own = heap.majority-own
+
+pub mixed-exactly : law.MixedExactly
+mixed-exactly = mixed.mixed-exactly
+
+pub mixed-blames : law.MixedBlames
+mixed-blames = mixed.mixed-blames
+
+pub old-on-top : law.OldOnTop
+old-on-top = mixed.old-on-top
 
 pub joined-secret : law.JoinedSecret
 joined-secret pile room w i e l h =

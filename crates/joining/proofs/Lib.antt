@@ -1,8 +1,10 @@
+pub mod HeapLaws
 pub mod PileLaws
 pub mod TableLaws
 pub mod ConflictLaws
 pub mod ShortLaws
 pub mod PlaceLaws
+pub mod MixedLaws
 pub mod PassedLaws
 pub mod SecretLaws
 pub mod SoundLaws

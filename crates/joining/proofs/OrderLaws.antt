@@ -13,12 +13,13 @@ use Rattle.block.specs.declared.deal.DealWords.{DealWords}
 use Rattle.block.proofs.Laws.{only-words}
 use Rattle.field.specs.Secret.{column, secretOf}
 use Rattle.field.proofs.SecretLaws.{secret-at, secret-length}
-use Rattle.pile.specs.Blocks.{blocks, restFrom, word, TrueBlocks, dealAt}
+use Rattle.pile.specs.Blocks.{blocks, restFrom, TrueBlocks, dealAt}
 use Rattle.joining.specs.Pile.{ownBlock, ownDeal, ownPieces, ownWidth, pieceAt, valueOf, valueAt}
 use Rattle.joining.specs.Secret.{secret}
 use Rattle.joining.specs.Laws.{Joins, Fits, Alike, Among, Within}
 use Rattle.pile.proofs.PileLaws.{rest-long}
-use Rattle.joining.proofs.PileLaws.{own-in, width-in}
+use Rattle.joining.proofs.HeapLaws.{own-in}
+use Rattle.joining.proofs.PileLaws.{width-in}
 use Rattle.joining.proofs.PolyLaws.{full, joined-secret}
 use Rattle.joining.proofs.SoundLaws.{sound-deal}
 

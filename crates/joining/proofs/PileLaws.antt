@@ -1,23 +1,20 @@
 -- What an unmixed pile says of its own deal and of its blocks' pieces. Assumes nothing.
 use mathlib.Core.Path.{_≡_, sym, ap, _∙_}
-use mathlib.Core.Bool.{not, true, false}
+use mathlib.Core.Bool.{true, false}
 use mathlib.Core.List.{List}
-use Prim.Native.Nat.{ℕ, _+_, _≤_}
-use native.Mathlib.Nat.{le-refl}
+use Prim.Native.Nat.{ℕ, _≤_}
 use native.Mathlib.Omega.{arith}
 use lib.Dec.{eqb}
-use borrow.Author.Tests.{eq-eqb, ne-eqb, not-false}
-use Rattle.lists.proofs.FirstLaws.{none-in}
+use borrow.Author.Tests.{eq-eqb, ne-eqb}
 use Rattle.block.specs.declared.deal.DealWords.{DealWords}
-use Rattle.block.specs.Deals.{sameDeal}
 use Rattle.block.specs.Laws.{Ranges}
 use Rattle.block.specs.Layout.{labelOf}
-use Rattle.block.proofs.DealLaws.{same-deal}
 use Rattle.block.proofs.RangeLaws.{true-ranges}
-use Rattle.pile.specs.Blocks.{blocks, In, restFrom, dealAt, TrueBlocks}
+use Rattle.pile.specs.Blocks.{blocks, In, restFrom, TrueBlocks}
 use Rattle.joining.specs.Pile.{ownBlock, ownDeal, ownPieces, ownWidth, pieceAt}
 use Rattle.joining.specs.Checks.{mixedAt}
 use Rattle.joining.specs.Inner.{Unmixed}
+use Rattle.joining.proofs.HeapLaws.{own-in, none-strays}
 
 -- a test of two numbers, by what they are
 pub equal : {x y u v : ℕ} → x ≡ u → y ≡ v → x ≡ y → eqb u v ≡ true
@@ -26,22 +23,10 @@ equal {u = u} {v = v} p q e = eq-eqb u v (sym p ∙ e ∙ q)
 pub other : {x y u v : ℕ} → x ≡ u → y ≡ v → (x ≡ y → ⊥) → eqb u v ≡ false
 other {u = u} {v = v} p q f = ne-eqb u v (λ e. f (p ∙ e ∙ sym q))
 
--- the pile's own deal is that of one of its blocks
-pub own-in : (pile : List ℕ) → 1 ≤ blocks pile → In pile (ownBlock pile)
-unfolding ownBlock
-own-in pile h = (le-refl 1, h)
-
--- where MIXED passes, every block is of it
+-- where MIXED passes, every block is of the pile's own deal
 pub unmixed : (pile : List ℕ) → 1 ≤ blocks pile → TrueBlocks pile → mixedAt pile ≡ 0 → Unmixed pile
 unfolding mixedAt
-unmixed pile some t z = record {
-  some = some;
-  blocks-true = t;
-  own-deal = λ a h.
-      same-deal (dealAt pile a) (ownDeal pile)
-      (not-false (sameDeal (dealAt pile a) (ownDeal pile))
-      (none-in (λ b. not (sameDeal (dealAt pile b) (ownDeal pile))) 1 (blocks pile + 1) (le-refl 1) z a (h .0) (omega (arith, h .1))));
-}
+unmixed pile some t z = record { some = some; blocks-true = t; own-deal = none-strays pile (ownDeal pile) z }
 
 module _ {pile : List ℕ} (u : Unmixed pile) where
   own-ranges : Ranges (labelOf (restFrom pile (ownBlock pile)))

@@ -17,21 +17,20 @@ use Rattle.answer.specs.Lent.{noRoom}
 use Rattle.answer.specs.Laws.{Passed}
 use Rattle.answer.proofs.CheckLaws.{passed-one, passed-both}
 use Rattle.answer.proofs.WhichLaws.{Gives, Without, none-gives, this-or-later, after-others, only-one, first-is}
-use Rattle.block.specs.Deals.{sameDeal}
 use Rattle.block.specs.Layout.{rightAt, firstWrong}
 use Rattle.block.specs.Open.{above, firstAbove, unread, check, header, slotLines, blockLines, TrueBlock}
 use Rattle.block.proofs.Laws.{true-means}
-use Rattle.pile.specs.Blocks.{blocks, In, restFrom, dealAt}
+use Rattle.pile.specs.Blocks.{blocks, In, restFrom}
 use Rattle.pile.specs.Lines.{tornPile, longPile, linesFrom, everyBlock}
 use Rattle.pile.proofs.PileLaws.{rest-long}
 use Rattle.joining.specs.Pile.{ownDeal, ownWidth}
-use Rattle.joining.specs.Checks.{mixedAt, mixed, conflict, short, wholeLines, pileLines}
+use Rattle.joining.specs.Checks.{strays, mixedAt, mixed, conflict, short, wholeLines, pileLines}
 use Rattle.joining.specs.Joined.{joinLines, joining}
 use Rattle.joining.specs.Laws.{UnreadPlaces, HeaderPlaces, MixedPlaces, RoomPlaces}
 
 module _ (pile : List ℕ) where
   -- the lines after those of the blocks
-  abbrev last : ℕ → List Line
+  abbrev pub last : ℕ → List Line
   last room = mixed pile ∷ conflict pile ∷ short pile ∷ noRoom (ownWidth pile) (ownWidth pile) room ∷ []
 
   pub join-lines : (room : ℕ) → joinLines pile room ≡ tornPile pile ∷ longPile pile ∷ everyBlock pile ++ last room
@@ -51,13 +50,13 @@ module _ (pile : List ℕ) where
     unfolding joining
     as-lines = ap (λ (ls : List Line). firstFail ls (done (ownWidth pile))) (sym (join-lines room)) ∙ e
 
-    -- a refusal with another number is that of a line after them
-    past-blocks : eqb m 13 ≡ false → eqb m 14 ≡ false → eqb m 15 ≡ false → eqb m 16 ≡ false → eqb m 17 ≡ false
-        → firstFail (last room) (done (ownWidth pile)) ≡ refused m a b
+    -- a refusal with another number is that of a line after them, which pass
+    pub past-blocks : eqb m 13 ≡ false → eqb m 14 ≡ false → eqb m 15 ≡ false → eqb m 16 ≡ false → eqb m 17 ≡ false
+        → Passed (tornPile pile ∷ longPile pile ∷ everyBlock pile) × (firstFail (last room) (done (ownWidth pile)) ≡ refused m a b)
     unfolding everyBlock some
     past-blocks t l x y z =
         after-others m (tornPile pile ∷ longPile pile ∷ everyBlock pile) (last room) (done (ownWidth pile)) a b as-lines
-        (rw (t, l) (blocks-without m (blocks pile) 1 x y z)) .1
+        (rw (t, l) (blocks-without m (blocks pile) 1 x y z))
 
 -- ---- a refusal that one line of a block gives, with the block's number as its place a
 record OneLine : Type 0 where
@@ -171,14 +170,14 @@ header-places pile room a b e =
 pub mixed-places : MixedPlaces
 unfolding mixedAt noRoom some
 mixed-places pile room a b e =
-    let after = past-blocks pile room (number Mixed) a b e refl refl refl refl refl in
+    let after = past-blocks pile room (number Mixed) a b e refl refl refl refl refl .1 in
     let g = only-one (number Mixed) [] (mixed pile) _ (ownWidth pile) a b after refl refl .1 in
-    (first-is (λ c. not (sameDeal (dealAt pile c) (ownDeal pile))) (blocks pile) (g .given) (g .a-is), sym (g .b-is))
+    (first-is (strays pile (ownDeal pile)) (blocks pile) (g .given) (g .a-is), sym (g .b-is))
 
 pub room-places : RoomPlaces
 unfolding noRoom some
 room-places pile room a b e =
-    let after = past-blocks pile room (number Room) a b e refl refl refl refl refl in
+    let after = past-blocks pile room (number Room) a b e refl refl refl refl refl .1 in
     let before = mixed pile ∷ conflict pile ∷ short pile ∷ [] in
     let g = only-one (number Room) before (noRoom (ownWidth pile) (ownWidth pile) room) [] (ownWidth pile) a b after refl refl .1 in
     (sym (g .a-is), rw (← g .a-is) (ltb-true _ _ (g .given)), sym (g .b-is))

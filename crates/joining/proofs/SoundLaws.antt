@@ -1,7 +1,6 @@
 -- Joining gives w exactly where the pile joins: the lines that passed say it, and a pile that joins passes them.
 -- Assumes nothing.
 use mathlib.Core.Path.{_≡_, sym, ap, _∙_}
-use mathlib.Core.Bool.{not}
 use mathlib.Core.List.{List, [], _∷_, _++_}
 use Prim.Native.Nat.{ℕ, _+_, _≤_, _<_}
 use native.Mathlib.Nat.{le-refl}
@@ -16,8 +15,6 @@ use Rattle.lists.proofs.Truth.{never}
 use Rattle.answer.proofs.CheckLaws.{given, not-given, append-lines, passed, passed-one, passed-done, passed-append, done-passed}
 use Rattle.lists.proofs.FirstLaws.{none-in, first-all, has-test, first-of, found-some, found-none, none-found}
 use Rattle.lists.proofs.ThoseLaws.{those-few, those-all, those-full}
-use Rattle.block.specs.Deals.{sameDeal}
-use Rattle.block.proofs.DealLaws.{deal-same}
 use Rattle.pile.specs.Blocks.{blocks, In, dealAt}
 use Rattle.pile.specs.Lines.{tornPile, longPile, everyBlock}
 use Rattle.pile.proofs.LineLaws.{true-blocks}
@@ -27,7 +24,7 @@ use Rattle.joining.specs.Pile.{ownBlock, ownDeal, ownPieces, ownWidth, p
 use Rattle.joining.specs.Checks.{mixedAt, mixed, conflictAt, conflict, short, wholeLines, pileLines}
 use Rattle.joining.specs.Joined.{joinLines, joining}
 use Rattle.joining.specs.Laws.{Sound, Joins}
-use Rattle.joining.proofs.PileLaws.{own-in}
+use Rattle.joining.proofs.HeapLaws.{own-in, all-of}
 use Rattle.joining.proofs.TableLaws.{place-most}
 use Rattle.joining.proofs.ConflictLaws.{Same, same-of, of-same, firstLike, apart, like-is, by-first}
 use Rattle.joining.proofs.ShortLaws.{short-given, short-passes, none-short}
@@ -81,9 +78,7 @@ module _ (pile : List ℕ) (s : Sound pile) where
 
   no-mixed : mixedAt pile ≡ 0
   unfolding mixedAt
-  no-mixed =
-      first-all (λ a. not (sameDeal (dealAt pile a) (ownDeal pile))) 1 (blocks pile + 1)
-      (λ a l h. rw (sound-deal a (l, omega arith)) (ap not (deal-same (ownDeal pile))))
+  no-mixed = all-of pile (ownDeal pile) sound-deal
 
   no-conflict : conflictAt pile ≡ 0
   no-conflict =

@@ -8,14 +8,23 @@ use lib.Dec.{eqb, ltb}
 use Rattle.answer.specs.declared.Kind.the-variants.{Mixed, Conflict, Short}
 use Rattle.answer.specs.Checks.{Line, line}
 use Rattle.lists.specs.Places.{firstIn, found}
+use Rattle.block.specs.declared.deal.DealWords.{DealWords}
 use Rattle.block.specs.Deals.{sameDeal}
 use Rattle.pile.specs.Blocks.{blocks, dealAt, firstBlock}
 use Rattle.pile.specs.Lines.{tornPile, longPile, everyBlock}
 use Rattle.joining.specs.Pile.{ownDeal, ownPieces, pieceAt, differIn, present}
 
+-- block a is not of the deal d
+abbrev pub strays : List ℕ → DealWords → ℕ → Bool
+strays pile d a = not (sameDeal (dealAt pile a) d)
+
+-- the first block outside the heap of the deal d, or 0
+abbrev pub firstStray : List ℕ → DealWords → ℕ
+firstStray pile d = firstBlock pile (strays pile d)
+
 -- 18 MIXED: the first block that is not of the pile's own deal, or 0
 unfoldable pub mixedAt : List ℕ → ℕ
-mixedAt pile = firstBlock pile (λ a. not (sameDeal (dealAt pile a) (ownDeal pile)))
+mixedAt pile = firstStray pile (ownDeal pile)
 
 abbrev pub mixed : List ℕ → Line
 mixed pile = line Mixed (found (mixedAt pile)) (mixedAt pile) 0

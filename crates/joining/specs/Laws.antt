@@ -1,9 +1,9 @@
 -- The laws that joining owes; their proofs are in proofs/Laws.antt.
 -- Assumes nothing.
-use Prim.Native.Nat.{ℕ, _+_, _-_, _%_, _≤_, _<_}
+use Prim.Native.Nat.{ℕ, _+_, _-_, _*_, _%_, _≤_, _<_}
 use mathlib.Core.Path.{_≡_}
 use mathlib.Core.Bool.{not}
-use mathlib.Core.Logic.{_≢_}
+use mathlib.Core.Logic.{_≢_, _↔_}
 use mathlib.Core.List.{List, _++_}
 use lib.ListN.{length, getD, drop}
 use Rattle.answer.specs.declared.Kind.the-variants.{Room, Unread, Header, Mixed}
@@ -15,12 +15,12 @@ use Rattle.prime.specs.Prime.{p, Below}
 use Rattle.field.specs.Poly.{value, One}
 use Rattle.field.specs.Differences.{byDifferences}
 use Rattle.field.specs.Secret.{column}
-use Rattle.block.specs.Deals.{sameDeal}
+use Rattle.block.specs.declared.deal.DealWords.{DealWords}
 use Rattle.block.specs.Layout.{rightAt}
 use Rattle.block.specs.Open.{above, TrueBlock}
 use Rattle.pile.specs.Blocks.{blocks, restFrom, word, dealAt, firstBlock, TrueBlocks, In}
-use Rattle.joining.specs.Pile.{ownDeal, ownPieces, ownWidth, pieceAt, placeOf, valueOf, valueAt, differIn, present}
-use Rattle.joining.specs.Checks.{contradictedBy, conflictAt}
+use Rattle.joining.specs.Pile.{heapOf, heap, ownBlock, ownDeal, ownPieces, ownWidth, pieceAt, placeOf, valueOf, valueAt, differIn, present}
+use Rattle.joining.specs.Checks.{strays, contradictedBy, conflictAt}
 use Rattle.joining.specs.Joined.{joining, joinedInto}
 use Rattle.joining.specs.Secret.{secret}
 
@@ -81,11 +81,49 @@ HeaderPlaces = (pile : List ℕ) (room a b : ℕ) → joining pile room ≡ refu
 -- MIXED: a is the first block that is not of the pile's own deal; b is 0.
 abbrev pub MixedPlaces : Type 0
 MixedPlaces = (pile : List ℕ) (room a b : ℕ) → joining pile room ≡ refused (number Mixed) a b
-    → IsFirst (λ c. not (sameDeal (dealAt pile c) (ownDeal pile))) 1 (blocks pile + 1) a × (b ≡ 0)
+    → IsFirst (strays pile (ownDeal pile)) 1 (blocks pile + 1) a × (b ≡ 0)
 
 -- ROOM: a is w, for which the lent output is too short; b is 0.
 abbrev pub RoomPlaces : Type 0
 RoomPlaces = (pile : List ℕ) (room a b : ℕ) → joining pile room ≡ refused (number Room) a b → (a ≡ ownWidth pile) × (room < a) × (b ≡ 0)
+
+-- ---- the pile's own deal
+-- SCOPE 6.3: no heap is larger than the one that the own block lies in,
+abbrev pub OwnLargest : Type 0
+OwnLargest = (pile : List ℕ) → 1 ≤ blocks pile → In pile (ownBlock pile) × ((a : ℕ) → In pile a → heap pile a ≤ heap pile (ownBlock pile))
+
+-- and every heap that begins earlier is smaller.
+abbrev pub OwnEarliest : Type 0
+OwnEarliest = (pile : List ℕ) (a : ℕ) → 1 ≤ a → a < ownBlock pile → heap pile a < heap pile (ownBlock pile)
+
+-- Where all blocks are of one deal, the own block is block 1.
+abbrev pub OneDealOwn : Type 0
+OneDealOwn = (pile : List ℕ) → 1 ≤ blocks pile → ((a : ℕ) → In pile a → dealAt pile a ≡ dealAt pile 1) → ownBlock pile ≡ 1
+
+-- A deal that more than half the blocks are of is the pile's own.
+abbrev pub MajorityOwn : Type 0
+MajorityOwn = (pile : List ℕ) (d : DealWords) → blocks pile < 2 * heapOf pile d → ownDeal pile ≡ d
+
+-- whole, true blocks, at most 560, of which one is of another deal than block 1
+pub record Mixes (pile : List ℕ) : Type 0 where
+  pub whole : length pile % 512 ≡ 0
+  pub few : blocks pile ≤ 560
+  pub blocks-true : TrueBlocks pile
+  pub another : (a : ℕ) × In pile a × (dealAt pile a ≢ dealAt pile 1)
+
+-- MIXED is given for these piles and for no others: whichever heap is the own one, that some block strays can be seen against block 1.
+abbrev pub MixedExactly : Type 0
+MixedExactly = (pile : List ℕ) (room : ℕ) → ((a : ℕ) × (b : ℕ) × (joining pile room ≡ refused (number Mixed) a b)) ↔ Mixes pile
+
+-- Where more than half the blocks are of the deal d, MIXED names the first block of another one.
+abbrev pub MixedBlames : Type 0
+MixedBlames = (pile : List ℕ) (room : ℕ) (d : DealWords) → Mixes pile → blocks pile < 2 * heapOf pile d
+    → (a : ℕ) × IsFirst (strays pile d) 1 (blocks pile + 1) a × (joining pile room ≡ refused (number Mixed) a 0)
+
+-- So an old card on top of such a pile is the one that is blamed.
+abbrev pub OldOnTop : Type 0
+OldOnTop = (pile : List ℕ) (room : ℕ) (d : DealWords) → Mixes pile → blocks pile < 2 * heapOf pile d → dealAt pile 1 ≢ d
+    → joining pile room ≡ refused (number Mixed) 1 0
 
 -- cs are the coefficients of a polynomial of degree less than k that has value i of piece j at j, for every block of the pile
 pub record Fits (pile : List ℕ) (i : ℕ) (cs : List ℕ) : Type 0 where

@@ -3,15 +3,30 @@
 use Prim.Native.Nat.{ℕ, _+_}
 use mathlib.Core.Bool.{Bool, not}
 use mathlib.Core.List.{List}
-use lib.Dec.{eqb}
+use lib.Dec.{eqb, leb}
+use lib.ListN.{length}
 use Rattle.lists.specs.Places.{firstIn, found, those}
+use Rattle.lists.specs.Some.{each}
 use Rattle.block.specs.declared.deal.DealWords.{DealWords}
+use Rattle.block.specs.Deals.{sameDeal}
 use Rattle.block.specs.Layout.{pieceOf}
-use Rattle.pile.specs.Blocks.{restFrom, word, dealAt, firstBlock}
+use Rattle.pile.specs.Blocks.{blocks, restFrom, word, dealAt, firstBlock}
 
--- the block whose deal is the pile's own, in a pile that has blocks
+-- how many blocks are of the deal d: they are its heap
+unfoldable pub heapOf : List ℕ → DealWords → ℕ
+heapOf pile d = length (those (λ b. sameDeal (dealAt pile b) d) 1 (blocks pile))
+
+-- the size of the heap that block a lies in
+abbrev pub heap : List ℕ → ℕ → ℕ
+heap pile a = heapOf pile (dealAt pile a)
+
+-- no block lies in a larger heap than block a
+unfoldable pub inLargest : List ℕ → ℕ → Bool
+inLargest pile a = each (blocks pile) (λ b. leb (heap pile b) (heap pile a))
+
+-- the block whose deal is the pile's own, in a pile that has blocks: the first that lies in a largest heap
 unfoldable pub ownBlock : List ℕ → ℕ
-ownBlock pile = 1
+ownBlock pile = firstBlock pile (inLargest pile)
 
 -- the pile's own deal; of a pile of no blocks all its words are 0
 abbrev pub ownDeal : List ℕ → DealWords

@@ -1,7 +1,8 @@
 // The checks of a pile in their order: TORN, LONG, those of its blocks, MIXED, CONFLICT and SHORT; and, for whatever it is joined into, ROOM.
+use crate::heaps::mixed_at;
+use crate::heaps::own_deal;
 use answer::Answer;
 use answer::Kind;
-use block::DealWords;
 ghost use mathlib.Core.Path.{_≡_};
 ghost use mathlib.Core.List.{[], _∷_};
 ghost use Prim.Native.Nat.{_≤_};
@@ -11,37 +12,10 @@ ghost use Rattle.answer.specs.Outcome.{outcome, done};
 ghost use Rattle.answer.specs.Checks.{firstFail};
 ghost use Rattle.lists.specs.Places.{those};
 ghost use Rattle.pile.specs.Blocks.{blocks, In, TrueBlocks};
-ghost use Rattle.joining.specs.Pile.{ownDeal, ownWidth, placeOf, differIn};
-ghost use Rattle.joining.specs.Checks.{mixedAt, conflict, wholeLines, pileLines};
+ghost use Rattle.joining.specs.Pile.{ownWidth, placeOf, differIn};
+ghost use Rattle.joining.specs.Checks.{conflict, wholeLines, pileLines};
 ghost use Rattle.joining.specs.Joined.{joining};
 ghost use Rattle.joining.specs.Inner.{Unmixed, placed};
-
-// The pile's own deal.
-pub fn own_deal(pile: &[u8]) -> DealWords
-    requires { ⌜ 1 ≤ blocks (now pile) ⌝ }
-    ensures { λ r. ⌜ r ≡ ownDeal (now (pile .entry)) ⌝ }
-{
-    pile::deal_at(pile, 1)
-}
-
-// The first block of another deal than the pile's own, or 0.
-fn mixed_at(pile: &[u8], own: DealWords) -> usize
-    requires { ⌜ own ≡ ownDeal (now pile) ⌝ }
-    ensures { λ r. ⌜ r ≡ mixedAt (now (pile .entry)) ⌝ }
-{
-    let end = pile.len() / 512 + 1;
-    let mut a: usize = 1;
-    while a < end {
-        let here = pile::deal_at(pile, a);
-        let same = block::same_deal(here, own);
-        if same {
-            a += 1;
-        } else {
-            return a;
-        }
-    }
-    0
-}
 
 // The first block of each piece, or 0 where it is missing: that of piece j at j - 1.
 pub fn places(pile: &[u8]) -> [usize; 70]
@@ -121,11 +95,11 @@ fn check_whole(pile: &[u8]) -> Answer
     requires { ⌜ TrueBlocks (now pile) ⌝ }
     ensures { λ r. ⌜ outcome r ≡ firstFail (wholeLines (now (pile .entry))) (done 0) ⌝ }
 {
-    let own = own_deal(pile);
-    let other = mixed_at(pile, own);
+    let other = mixed_at(pile);
     if other != 0 {
         return answer::refuse(Kind::Mixed, other, 0);
     }
+    let own = own_deal(pile);
     let table = places(pile);
     let w = own.width as usize;
     if let Answer::Refused(r) = check_conflict(pile, w, &table) {

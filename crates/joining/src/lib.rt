@@ -1,15 +1,16 @@
 // Joining: a pile of card blocks to its secret, by one of two joiners with the same checks and the same promise. The checks are in checks.rt,
-// the secret by weights in secret.rt, by differences in differences.rt; the definitions that the contracts cite are in specs/, under the
+// the deal that a pile is of in heaps.rt, the secret by weights in secret.rt, by differences in differences.rt; the definitions that the contracts cite are in specs/, under the
 // functions' names.
 mod checks;
 mod differences;
+mod heaps;
 mod secret;
 
 use answer::Answer;
 use checks::check_join;
 pub use checks::check_pile;
-use checks::own_deal;
 use differences::write_by_differences;
+use heaps::own_deal;
 use secret::write_secret;
 ghost use mathlib.Core.Path.{_≡_};
 ghost use lib.ListN.{length};

@@ -118,6 +118,26 @@ those-same f g i (suc n) h =
     ap₂ (λ (l : List ℕ) (b : Bool). l ++ cond b ((i + n) ∷ []) [])
     (those-same f g i n (λ s l m. h s l (omega arith))) (h (i + n) (omega arith) (omega arith))
 
+-- two tests of which no number has both: together they have no more than n
+pub those-apart : (f g : ℕ → Bool) (i n : ℕ) → ((s : ℕ) → i ≤ s → s < i + n → f s ≡ true → g s ≡ false)
+    → length (those f i n) + length (those g i n) ≤ n
+unfolding those
+those-apart f g i zero h = zero-le
+those-apart f g i (suc n) h =
+    omega (
+      arith,
+      those-apart f g i n (λ s l m. h s l (omega arith)),
+      length-append (those f i n) (cond (f (i + n)) ((i + n) ∷ []) []),
+      length-append (those g i n) (cond (g (i + n)) ((i + n) ∷ []) []),
+      one (f (i + n)) (g (i + n)) (h (i + n) (omega arith) (omega arith)),
+    )
+  where
+    one : (x y : Bool) → (x ≡ true → y ≡ false) → length (cond x ((i + n) ∷ []) []) + length (cond y ((i + n) ∷ []) []) ≤ 1
+    one true true k = absurd (false≢true (sym (k refl)))
+    one true false k = le-refl 1
+    one false true k = le-refl 1
+    one false false k = zero-le
+
 -- ---- they rise
 pub record Rises (l : List ℕ) : Type 0 where
   pub rise : (a b : ℕ) → a < b → b < length l → getD l a 0 < getD l b 0

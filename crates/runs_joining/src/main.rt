@@ -1,5 +1,5 @@
-// What joining answers where the joining program cannot ask: an output with too little room, and piles past 560 blocks; with the lent words
-// afterwards; by the first joiner, and then by differences. It is compared with `stdout`.
+// What joining answers where the joining program cannot ask: an output with too little room, and piles past 560 blocks; and of piles of several
+// deals; with the lent words afterwards; by the first joiner, and then by differences. It is compared with `stdout`.
 use answer::Answer;
 use answer::Refusal;
 
@@ -51,8 +51,8 @@ fn case(by_differences: bool, name: &[u8], pile: &[u8], out: &mut [u16]) {
     io::write_all(1, b"\n");
 }
 
-// A holder's card of a deal of the secret 1234, 5678 to two people, into what is lent from byte `at` on.
-fn card(holder: usize, out: &mut [u8], at: usize) {
+// A holder's card of a deal of the secret 1234, 5678 to two people, under this number, into what is lent from byte `at` on: one block.
+fn card(deal: usize, holder: usize, out: &mut [u8], at: usize) {
     let none = [0u16; 0];
     let required = [3u16];
     let secret = [1234u16, 5678];
@@ -62,7 +62,7 @@ fn card(holder: usize, out: &mut [u8], at: usize) {
             2,
             &required,
             &none,
-            7,
+            deal,
             holder,
             &secret,
             &random,
@@ -74,8 +74,8 @@ fn card(holder: usize, out: &mut [u8], at: usize) {
 // Both cards of that deal, with less and with more room than the secret needs.
 fn rooms(by_differences: bool) {
     let mut cards = [0u8; 1024];
-    card(1, &mut cards, 0);
-    card(2, &mut cards, 512);
+    card(7, 1, &mut cards, 0);
+    card(7, 2, &mut cards, 512);
     let mut no_words = [0u16; 0];
     let mut one = [9u16];
     let mut two = [9u16, 9];
@@ -109,10 +109,53 @@ fn piles(by_differences: bool) {
     );
 }
 
+// Four blocks of the deals of these numbers, of both holders in turns, as a pile.
+fn deals(by_differences: bool, name: &[u8], one: usize, two: usize, three: usize, four: usize) {
+    let mut cards = [0u8; 2048];
+    card(one, 1, &mut cards, 0);
+    card(two, 2, &mut cards, 512);
+    card(three, 1, &mut cards, 1024);
+    card(four, 2, &mut cards, 1536);
+    let mut words = [9u16; 2];
+    case(by_differences, name, &cards, &mut words);
+}
+
+// An old card, of deal 6, among three of deal 7.
+fn old_cards(by_differences: bool) {
+    deals(by_differences, b"an old card on top:", 6, 7, 7, 7);
+    deals(by_differences, b"an old card, second:", 7, 6, 7, 7);
+    deals(by_differences, b"an old card in the middle:", 7, 7, 6, 7);
+    deals(by_differences, b"an old card at the end:", 7, 7, 7, 6);
+}
+
+// Two heaps that are equal.
+fn equal_heaps(by_differences: bool) {
+    deals(by_differences, b"equal heaps, the new first:", 7, 7, 6, 6);
+    deals(by_differences, b"equal heaps, the old first:", 6, 6, 7, 7);
+    deals(by_differences, b"equal heaps in turns:", 7, 6, 7, 6);
+    deals(by_differences, b"equal heaps, one around:", 6, 7, 7, 6);
+}
+
+// More heaps than two, and one.
+fn other_heaps(by_differences: bool) {
+    deals(by_differences, b"three heaps, two old on top:", 5, 6, 7, 7);
+    deals(by_differences, b"three heaps, an old on top:", 6, 7, 7, 5);
+    deals(by_differences, b"three heaps, the new first:", 7, 5, 6, 7);
+    deals(by_differences, b"every block another deal:", 5, 6, 7, 8);
+    deals(by_differences, b"one deal:", 7, 7, 7, 7);
+}
+
+// All of it, by one of the joiners.
+fn cases(by_differences: bool) {
+    rooms(by_differences);
+    piles(by_differences);
+    old_cards(by_differences);
+    equal_heaps(by_differences);
+    other_heaps(by_differences);
+}
+
 fn main() {
-    rooms(false);
-    piles(false);
+    cases(false);
     io::write_all(1, b"by differences\n");
-    rooms(true);
-    piles(true);
+    cases(true);
 }

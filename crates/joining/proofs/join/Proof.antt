@@ -28,7 +28,7 @@ k-is : (c : tie.After-own-deal) → c .own-deal .result .pieces ≡ ownPieces (c
 k-is c = ap (λ (d : DealWords). d .pieces) (c .own-deal .ensures)
 
 own-deal-requires : tie.Need-own-deal-requires
-own-deal-requires c κs = pile-full c .unmixed .some
+own-deal-requires c κs = pile-full c .unmixed
 
 weights-requires : tie.Need-weights-requires
 weights-requires c κs = omega (arith, k-is (c .before), pieces-in (pile-full (c .before .before) .unmixed) .1)

@@ -24,7 +24,7 @@ k-is : (c : tie.After-own-deal) → c .own-deal .result .pieces ≡ ownPieces (c
 k-is c = ap (λ (d : DealWords). d .pieces) (c .own-deal .ensures)
 
 own-deal-requires : tie.Need-own-deal-requires
-own-deal-requires c κs = pile-full c .unmixed .some
+own-deal-requires c κs = pile-full c .unmixed
 
 write-by-differences-requires : tie.Need-write-by-differences-requires
 write-by-differences-requires c κs =

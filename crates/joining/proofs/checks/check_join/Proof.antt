@@ -41,7 +41,7 @@ own-deal-requires : tie.Need-own-deal-requires
 own-deal-requires c κs =
     let f = c .before .before in
     let p = f .before .before .args .pile .now in
-    accepted p (done-passed (pileLines p) (done 0) _ (sym (f .check-pile .ensures) ∙ ap outcome (c .enum-told .given .1)) .0) .full .unmixed .some
+    accepted p (done-passed (pileLines p) (done 0) _ (sym (f .check-pile .ensures) ∙ ap outcome (c .enum-told .given .1)) .0) .full .unmixed
 
 w-is : (c : tie.After-own-deal) → c .own-deal .result .width ≡ ownWidth (c .before .before .before .before .before .args .pile .now)
 w-is c = ap (λ (d : DealWords). d .width) (c .own-deal .ensures)

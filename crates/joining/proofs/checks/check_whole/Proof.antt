@@ -19,14 +19,14 @@ use Rattle.joining.proofs.checks.check_whole.Statement.{statement}
 use Rattle.joining.proofs.checks.check_whole.Tie as tie
 
 -- the pile past MIXED, and the lines that are left
-past-mixed : (c : tie.Else1) → Unmixed (c .before .before .before .before .args .pile .now)
+past-mixed : (c : tie.Else1) → Unmixed (c .before .before .before .args .pile .now)
 past-mixed c =
-    let s = c .before .before .before .before in
+    let s = c .before .before .before in
     unmixed (s .args .pile .now) (s .pre .0) (s .pre .1) (sym (c .before .mixed-at .ensures) ∙ c .if1 .left)
 
 left1 : (c : tie.Else1)
-    → Says (said (wholeLines (c .before .before .before .before .args .pile .now)))
-    (conflict (c .before .before .before .before .args .pile .now) ∷ short (c .before .before .before .before .args .pile .now) ∷ [])
+    → Says (said (wholeLines (c .before .before .before .args .pile .now)))
+    (conflict (c .before .before .before .args .pile .now) ∷ short (c .before .before .before .args .pile .now) ∷ [])
 left1 c = passes (whole _) (found-none (sym (c .before .mixed-at .ensures) ∙ c .if1 .left))
 
 left2 : (c : tie.After-enum-told)
@@ -34,8 +34,8 @@ left2 : (c : tie.After-enum-told)
     (short (c .before .before .before .before .before .before .before .before .before .before .args .pile .now) ∷ [])
 left2 c =
     let f = c .before .before in
-    let e = f .before .before .before .before in
-    part-passes (conflict (e .before .before .before .before .args .pile .now) ∷ []) _ (left1 e) (f .check-conflict .ensures) (c .enum-told .given .1)
+    let e = f .before .before .before .before .before in
+    part-passes (conflict (e .before .before .before .args .pile .now) ∷ []) _ (left1 e) (f .check-conflict .ensures) (c .enum-told .given .1)
 
 returns : tie.Need-returns
 returns c =
@@ -43,29 +43,32 @@ returns c =
     let e = t .before .mixed-at .ensures in
     c .refuse .ensures ∙ ap (λ a. refused 18 a 0) e ∙ speaks (whole _) (found-some (λ z. t .if1 .taken (e ∙ z)))
 
+own-deal-requires : tie.Need-own-deal-requires
+own-deal-requires c κs = past-mixed c
+
 places-requires : tie.Need-places-requires
-places-requires c κs = past-mixed c
+places-requires c κs = past-mixed (c .before)
 
 check-conflict-requires : tie.Need-check-conflict-requires
 check-conflict-requires c κs =
     let p = c .before .before in
-    let e = p .before in
-    (past-mixed e, (ap (λ (d : DealWords). d .width) (e .before .before .own-deal .ensures), p .places .ensures))
+    let o = p .before in
+    (past-mixed (o .before), (ap (λ (d : DealWords). d .width) (o .own-deal .ensures), p .places .ensures))
 
 returns-2 : tie.Need-returns-2
 returns-2 c =
     let f = c .before .before .before in
-    let e = f .before .before .before .before in
-    part-speaks (conflict (e .before .before .before .before .args .pile .now) ∷ []) _ (left1 e) (f .check-conflict .ensures) (c .before .r .given .1)
+    let e = f .before .before .before .before .before in
+    part-speaks (conflict (e .before .before .before .args .pile .now) ∷ []) _ (left1 e) (f .check-conflict .ensures) (c .before .r .given .1)
 
 -- k, and the pieces present
 k-is : (c : tie.After-enum-told)
-    → (c .before .before .before .before .before .before .before .before .own-deal .result .pieces ≡ ownPieces (c .before .before .before .before .before .before .before .before .before .before .args .pile .now))
-    × (c .before .before .before .before .before .before .before .before .own-deal .result .pieces ≤ 70)
+    → (c .before .before .before .before .before .before .own-deal .result .pieces ≡ ownPieces (c .before .before .before .before .before .before .before .before .before .before .args .pile .now))
+    × (c .before .before .before .before .before .before .own-deal .result .pieces ≤ 70)
 k-is c =
-    let e = c .before .before .before .before .before .before in
-    let k = ap (λ (d : DealWords). d .pieces) (e .before .before .own-deal .ensures) in
-    (k, omega (arith, k, pieces-in (past-mixed e) .1))
+    let o = c .before .before .before .before .before .before in
+    let k = ap (λ (d : DealWords). d .pieces) (o .own-deal .ensures) in
+    (k, omega (arith, k, pieces-in (past-mixed (o .before)) .1))
 
 count-present-requires : tie.Need-count-present-requires
 count-present-requires c κs = k-is (c .before .before) .1
@@ -97,8 +100,8 @@ check-whole-spec =
     (tie.spec
     (λ c κs. search needs)
     (λ c κs. search needs)
-    (λ c κs. search needs)
     returns
+    own-deal-requires
     places-requires
     (λ c. search needs)
     check-conflict-requires
