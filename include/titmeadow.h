@@ -7,7 +7,7 @@
  * words of titmeadow_pack have their size in the declaration and no count: they are never NULL.
  *
  * The archive is for x86-64. Its size, and the stack that each call takes on that target: docs/BENCHMARKS.md.
- * Symbols that it needs: memcpy, memset.
+ * Symbols that it needs: memset.
  */
 #ifndef TITMEADOW_H
 #define TITMEADOW_H

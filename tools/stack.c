@@ -13,6 +13,9 @@ static size_t key_piled;
 static uint16_t required[256], groups[70], secret[16], words[16], randomness[16 * 69], head[7];
 static size_t sets, piled, fewer;
 static volatile size_t sink;
+/* a policy, and how many pieces it has */
+static uint16_t need[257], bar[257];
+static size_t people, needs, bars, pieces;
 
 static void nothing(void) { sink = 1; }
 static void plan(void) { sink = titmeadow_plan(8, required, sets, required, 0, groups).a; }
@@ -26,6 +29,11 @@ static void pack(void) { sink = titmeadow_pack(key, 16, words).a; }
 static void unpack(void) { sink = titmeadow_unpack(secret, 10, key, 16).a; }
 static void deal_key(void) { sink = titmeadow_deal_key(8, required, sets, required, 0, 7, 3, key, 16, randomness, 10 * 69, card, sizeof card).a; }
 static void join_key(void) { sink = titmeadow_join_key(key_pile, key_piled, key, 16).a; }
+static void plan_lists(void) { sink = titmeadow_plan(people, need, needs, bar, bars, groups).a; }
+static void deal_lists(void) { sink = titmeadow_deal(people, need, needs, bar, bars, 7, 1, secret, 16, randomness, 16 * (pieces - 1), card, sizeof card).a; }
+static void deal_key_lists(void) {
+    sink = titmeadow_deal_key(people, need, needs, bar, bars, 7, 1, key, 16, randomness, 10 * (pieces - 1), card, sizeof card).a;
+}
 
 static ucontext_t back, there;
 
@@ -84,6 +92,55 @@ static void over_k(const char *name, void (*f)(void), size_t base) {
     printf("| `%s`, of 1 to 70 pieces | %zu to %zu |\n", name, least, most);
 }
 
+/* the least and the most that planning and dealing take on the policy that is laid out, and on all before it */
+static struct { const char *name; void (*f)(void); size_t least, most; } by_lists[] = {
+    {"titmeadow_plan", plan_lists, SIZE_MAX, 0}, {"titmeadow_deal", deal_lists, SIZE_MAX, 0}, {"titmeadow_deal_key", deal_key_lists, SIZE_MAX, 0}};
+static size_t policies, accepted;
+
+static void take(size_t base) {
+    titmeadow_answer said = titmeadow_plan(people, need, needs, bar, bars, groups);
+    pieces = said.number == 0 ? said.a : 1;
+    accepted += said.number == 0;
+    policies++;
+    for (size_t i = 0; i < sizeof by_lists / sizeof *by_lists; i++) {
+        size_t bytes = used(by_lists[i].f) - base;
+        by_lists[i].least = bytes < by_lists[i].least ? bytes : by_lists[i].least;
+        by_lists[i].most = bytes > by_lists[i].most ? bytes : by_lists[i].most;
+    }
+}
+
+static uint16_t drawn(unsigned below) {
+    static uint32_t seed = 1;
+    seed = seed * 1664525 + 1013904223;
+    return (uint16_t)((seed >> 16) % below);
+}
+
+/* any m of n for each m and n, 0 and 9 people too; then lists of up to 257 sets by a fixed rule, most of them of the n people, some forbidden */
+static void over_lists(size_t base) {
+    for (people = 0; people <= 9; people++)
+        for (int m = 0; m <= 9; m++) {
+            needs = bars = 0;
+            for (unsigned set = 0; set < 256; set++)
+                if (set < 1u << people && __builtin_popcount(set) == m)
+                    need[needs++] = (uint16_t)set;
+            take(base);
+        }
+    for (size_t i = 0; i < 300; i++) {
+        people = 2 + drawn(7);
+        needs = i % 3 == 0 ? 250 + drawn(8) : 1 + drawn(12);
+        bars = drawn(3) == 0 ? drawn(258) : 0;
+        for (size_t j = 0; j < needs; j++)
+            do
+                need[j] = drawn(4000) == 0 ? 256 : drawn(1u << people);
+            while (i % 4 && need[j] < 256 && __builtin_popcount(need[j]) < 2);
+        for (size_t j = 0; j < bars; j++)
+            bar[j] = drawn(2) == 0 ? 1 : drawn(1u << people);
+        take(base);
+    }
+    for (size_t i = 0; i < sizeof by_lists / sizeof *by_lists; i++)
+        printf("| `%s`, of %zu policies, %zu of them accepted | %zu to %zu |\n", by_lists[i].name, policies, accepted, by_lists[i].least, by_lists[i].most);
+}
+
 int main(void) {
     for (unsigned set = 0; set < 256; set++)
         if (__builtin_popcount(set) == 5)
@@ -104,5 +161,6 @@ int main(void) {
     }
     over_k("titmeadow_join", join_few, base);
     over_k("titmeadow_join_by_differences", join_few_by_differences, base);
+    over_lists(base);
     return 0;
 }

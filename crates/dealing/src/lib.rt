@@ -66,11 +66,10 @@ pub fn deal(
         let d = dealFrom policy «deal_number» (now (secret .entry)) (now (random .entry)) in
         ⌜ now (out .exit) ≡ dealtInto d holder (now (out .entry)) ⌝ }
 {
-    let plan = planning::plan(people, required, forbidden);
-    match planning::answer_of(plan) {
+    let mut rows = [[false; 8]; 70];
+    match planning::plan_into(people, required, forbidden, &mut rows) {
         Answer::Refused(r) => Answer::Refused(r),
         Answer::Done(k) => {
-            let rows = planning::rows_of(plan);
             let asked = Asked {
                 people: people,
                 number: deal_number,

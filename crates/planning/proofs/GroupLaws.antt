@@ -1,117 +1,129 @@
--- The walk over the people that tells a maximal group, and what flags say of the groups.
+-- A maximal group, told by one walk over the required list: what the group lacks of each set. And what that comes to, in members.
 -- Assumes nothing.
-use mathlib.Core.Path.{_≡_, refl, sym, ap, ap₂, _∙_}
-use mathlib.Core.Bool.{Bool, true, false, not, _&&_, _||_}
+use mathlib.Core.Path.{_≡_, refl, sym, ap, _∙_}
+use mathlib.Core.Bool.{Bool, true, false, cond, not, _||_}
 use mathlib.Core.List.{List}
-use mathlib.Core.Logic.{⊎-elim}
-use Prim.Native.Nat.{ℕ, zero, suc, _+_, _*_, _/_, _%_, _^_, _≤_, _<_}
-use native.Mathlib.Nat.{pow-suc}
+use mathlib.Core.Logic.{_↔_, ⊎-elim}
+use Prim.Native.Nat.{ℕ, _+_, _-_, _^_, _≤_, _<_, zero-le}
 use native.Mathlib.Numerals.{add-one}
 use native.Mathlib.Omega.{arith}
-use lib.ListN.{set, replicate, length-set}
+use lib.Dec.{eqb}
+use lib.ListN.{length, getD, drop}
 use lib.Pow.{pow-mono}
-use lib.Seq.{getD-set-same, getD-set-other}
-use borrow.Author.Count.{below-none, below-more}
-use Rattle.lists.proofs.ThoseLaws.{those-same}
-use Rattle.planning.specs.Sets.{worth, member}
-use Rattle.lists.specs.Some.{each}
-use Rattle.planning.specs.Groups.{tight, maximalBy, groupsBy}
-use Rattle.planning.specs.Inner.{Flags, flagged}
-use Rattle.lists.proofs.Truth.{never, isn't, and-both, or-cases, or-l, or-r}
-use Rattle.lists.proofs.EachLaws.{each-at, each-same}
-use Rattle.planning.proofs.SetLaws.{next-bit, bit-next, back, more-lt, person-lt}
+use lib.Seq.{drop-cons, drop-length}
+use Rattle.lists.specs.Some.{_∈_, some, each}
+use Rattle.lists.proofs.Truth.{never, decided, isn't, both, and-both, or-cases, or-l, or-r, not-so, so-not}
+use Rattle.lists.proofs.EachLaws.{each-at, each-of, each-same}
+use Rattle.lists.proofs.SomeLaws.{some-in, in-some}
+use Rattle.planning.specs.Sets.{worth, member, inside, oneMember}
+use Rattle.planning.specs.Groups.{authorised, tight, maximalBy, maximal}
+use Rattle.planning.specs.Inner.{Lacked, Either}
+use Rattle.planning.specs.Laws.{OnlyLacks}
+use Rattle.planning.proofs.SetLaws.{inside-fails}
+use Rattle.planning.proofs.LackLaws.{inside-everyone, only-lack, lacks-nobody, lacks-one}
 
--- ---- the people, one after the other: those up to i are in the group or make it authorised, and the next is worth w
-pub record Walked (auth : ℕ → Bool) (g i w : ℕ) : Type 0 where
-  pub next-worth : w ≡ 2 ^ i
-  pub unauthorised : auth g ≡ false
-  pub so-far : tight auth i g ≡ true
+-- ---- at index i: what is still ahead says, with what was found, the same as the whole list
+pub record Walked (l : List ℕ) (g i : ℕ) (within : Bool) (found : ℕ) : Type 0 where
+  pub in-list : i ≤ length l
+  pub inside-said : authorised l g ≡ (within || authorised (drop i l) g)
+  pub others-said : (p : ℕ) → 1 ≤ p → p ≤ 16 → member p g ≡ false
+      → authorised l (g + worth p) ≡ ((within || member p found) || authorised (drop i l) (g + worth p))
+  pub own : (p : ℕ) → 1 ≤ p → p ≤ 16 → member p g ≡ true → member p found ≡ true
 
-pub walk-start : {auth : ℕ → Bool} {g : ℕ} → auth g ≡ false → Walked auth g 0 1
-unfolding tight each
-walk-start u = record { next-worth = refl; unauthorised = u; so-far = refl }
+pub walk-start : (l : List ℕ) (g : ℕ) → Walked l g 0 false g
+walk-start l g = record { in-list = zero-le; inside-said = refl; others-said = λ p _ _ o. rw o; own = λ p _ _ m. m }
 
-module _ {auth : ℕ → Bool} {g i w : ℕ} (h : Walked auth g i w) where
-  one-more : (member (suc i) g || auth (g + worth (suc i))) ≡ true → Walked auth g (i + 1) (w * 2)
-  unfolding tight each
-  one-more t = record {
-    next-worth = ap (λ (x : ℕ). x * 2) (h .next-worth) ∙ sym (pow-suc 2 i) ∙ ap (λ (x : ℕ). 2 ^ x) (sym (add-one i));
-    unauthorised = h .unauthorised;
-    so-far = ap (λ (x : ℕ). each x (λ j. member j g || auth (g + worth j))) (add-one i) ∙ and-both (h .so-far) t;
+-- the next set: inside, or with one person more, or neither
+one-more : (w t rest : Bool) → (w || (t || rest)) ≡ ((w || t) || rest)
+one-more true t rest = refl
+one-more false t rest = refl
+
+two-more : (w f t a rest : Bool) → ((w || f) || ((t || a) || rest)) ≡ (((w || t) || (f || a)) || rest)
+two-more true f t a rest = refl
+two-more false true true a rest = refl
+two-more false true false a rest = refl
+two-more false false true a rest = refl
+two-more false false false a rest = refl
+
+or-none : (b : Bool) → (b || false) ≡ b
+or-none true = refl
+or-none false = refl
+
+module _ {l : List ℕ} {g i : ℕ} {within : Bool} {found : ℕ} (h : Walked l g i within found) where
+  pub walk-next : {s a f : ℕ} → i < length l → Lacked (getD l i 0) g s → a ≡ cond (oneMember s) s 0 → Either found a f
+      → Walked l g (i + 1) (within || eqb s 0) f
+  unfolding authorised some
+  walk-next {s} {a} {f} in-it s-is a-is f-is = record {
+    in-list = omega arith;
+    inside-said = h .inside-said ∙ rw (drop-cons l i 0 in-it, lacks-nobody s-is, add-one i) (one-more within (eqb s 0) _);
+    others-said = λ p pos few o.
+        h .others-said p pos few o
+        ∙ rw (drop-cons l i 0 in-it, lacks-one s-is a p a-is pos few o, add-one i, f-is .has p pos few) (two-more within (member p found) (eqb s 0) (member p a) _);
+    own = λ p pos few m. f-is .has p pos few ∙ or-l (member p a) (h .own p pos few m);
   }
 
-  -- what the next person is worth, in the definition's words
-  its-worth : worth (suc i) ≡ w
-  its-worth = ap (λ (x : ℕ). 2 ^ x) (back i) ∙ sym (h .next-worth)
-
-  -- the next person is in the group ..
-  pub walk-in : (g / w % 2 ≡ 0 → ⊥) → Walked auth g (i + 1) (w * 2)
-  walk-in n = one-more (or-l (auth (g + worth (suc i))) (bit-next i g (λ z. n (ap (λ (x : ℕ). g / x % 2) (h .next-worth) ∙ z))))
-
-  -- .. or makes it authorised ..
-  pub walk-adds : auth (g + w) ≡ true → Walked auth g (i + 1) (w * 2)
-  walk-adds t = one-more (or-r (member (suc i) g) (ap (λ (x : ℕ). auth (g + x)) its-worth ∙ t))
-
-  -- .. or neither.
-  pub walk-fails : (n : ℕ) → i < n → g / w % 2 ≡ 0 → auth (g + w) ≡ false → maximalBy auth n g ≡ false
-  unfolding maximalBy tight
-  walk-fails n p z f = rw (h .unauthorised) (isn't (λ t. ⊎-elim
-      (λ (m : member (suc i) g ≡ true). let o : ⊥ = omega (arith, next-bit i g m, ap (λ (x : ℕ). g / x % 2) (h .next-worth)) in o)
-      (λ (m : auth (g + worth (suc i)) ≡ true). never f (ap (λ (x : ℕ). auth (g + x)) (sym its-worth) ∙ m))
-      (or-cases (member (suc i) g) (auth (g + worth (suc i))) (each-at n (λ j. member j g || auth (g + worth j)) t (suc i) (omega arith) p))))
-
-  pub walk-end : (n : ℕ) → i ≡ n → maximalBy auth n g ≡ true
+  pub walk-inside : (n : ℕ) → within ≡ true → false ≡ maximal n l g
   unfolding maximalBy
-  walk-end n e = rw (h .unauthorised, ← e) (h .so-far)
+  walk-inside n t = rw (h .inside-said, t)
 
-pub authorised-not-maximal : (auth : ℕ → Bool) (n g : ℕ) → auth g ≡ true → maximalBy auth n g ≡ false
-unfolding maximalBy
-authorised-not-maximal auth n g a = rw a
+  pub walk-end : (n : ℕ) → n ≤ 16 → length l ≤ i → within ≡ false → inside (2 ^ n - 1) found ≡ maximal n l g
+  unfolding maximalBy tight authorised some
+  walk-end n few past e =
+      let z : i ≡ length l = omega (arith, h .in-list) in
+      inside-everyone n found few
+      ∙ each-same n (λ p. member p found) (λ p. member p g || authorised l (g + worth p)) (λ p pos k. person p pos (omega arith) z)
+      ∙ rw (h .inside-said, e, z, drop-length l)
+    where
+      person : (p : ℕ) → 1 ≤ p → p ≤ 16 → i ≡ length l → member p found ≡ (member p g || authorised l (g + worth p))
+      person p pos k z =
+          ⊎-elim (λ (m : member p g ≡ true). h .own p pos k m ∙ rw m)
+          (λ (o : member p g ≡ false). rw (o, h .others-said p pos k o, e, z, drop-length l) (sym (or-none (member p found))))
+          (decided (member p g))
 
--- ---- at most eight people: a group, and one with a person more, has a flag
-pub group-lt : (n g : ℕ) → n ≤ 8 → g < 2 ^ n → g < 256
-group-lt n g few h = let p : 2 ^ n ≤ 2 ^ 8 = pow-mono few in omega arith
+-- ---- in members
+module _ (n : ℕ) (required : List ℕ) (g : ℕ) (few : n ≤ 16) where
+  lacks-each : maximal n required g ≡ true
+      → ((s : ℕ) → s ∈ required → inside s g ≡ false)
+      × ((i : ℕ) → 1 ≤ i → i ≤ n → member i g ≡ false → (s : ℕ) × (s ∈ required) × OnlyLacks g s i)
+  unfolding maximalBy tight authorised
+  lacks-each t = (outside, person)
+    where
+      told : (not (authorised required g) ≡ true) × (tight (authorised required) n g ≡ true)
+      told = both (not (authorised required g)) (tight (authorised required) n g) t
 
-pub more-group-lt : (n g i w : ℕ) → n ≤ 8 → g < 2 ^ n → i < n → w ≡ 2 ^ i → g / w % 2 ≡ 0 → g + w < 256
-more-group-lt n g i w few h p e z =
-    group-lt n (g + w) few (rw e (more-lt n i g h p (ap (λ (x : ℕ). g / x % 2) (sym e) ∙ z)))
+      outside : (s : ℕ) → s ∈ required → inside s g ≡ false
+      outside s m = isn't (λ u. never (not-so (authorised required g) (told .0)) (in-some (λ r. inside r g) required s m u))
 
-pub worth-le : (n i w : ℕ) → n ≤ 8 → i < n → w ≡ 2 ^ i → w ≤ 128
-worth-le n i w few p e = let q : 2 ^ i ≤ 2 ^ 7 = pow-mono {j = 7} (omega arith) in omega arith
+      person : (i : ℕ) → 1 ≤ i → i ≤ n → member i g ≡ false → (s : ℕ) × (s ∈ required) × OnlyLacks g s i
+      person i l h o =
+          ⊎-elim (λ (m : member i g ≡ true). absurd (never o m))
+          (λ (a : authorised required (g + worth i) ≡ true).
+          let r = some-in (λ s. inside s (g + worth i)) required a in
+          let one = only-lack (r .0) g i l o .0 (r .2) in
+          let f = inside-fails (r .0) g (outside (r .0) (r .1)) in
+          (r .0, r .1, (ap (λ (x : ℕ). member x (r .0)) (sym (one (f .0) (f .1) (f .2) (f .3) (f .4))) ∙ f .3, o, one)))
+          (or-cases (member i g) (authorised required (g + worth i)) (each-at n (λ j. member j g || authorised required (g + worth j)) (told .1) i l h))
 
+  each-lacks : ((s : ℕ) → s ∈ required → inside s g ≡ false)
+      × ((i : ℕ) → 1 ≤ i → i ≤ n → member i g ≡ false → (s : ℕ) × (s ∈ required) × OnlyLacks g s i)
+      → maximal n required g ≡ true
+  unfolding maximalBy tight authorised
+  each-lacks h =
+      and-both
+      (so-not (isn't (λ u. let r = some-in (λ s. inside s g) required u in never (h .0 (r .0) (r .1)) (r .2))))
+      (each-of n (λ i. member i g || authorised required (g + worth i))
+      (λ i l k. ⊎-elim (λ (m : member i g ≡ true). or-l (authorised required (g + worth i)) m)
+      (λ (o : member i g ≡ false).
+      let w = h .1 i l k o in
+      or-r (member i g) (in-some (λ s. inside s (g + worth i)) required (w .0) (w .1) (only-lack (w .0) g i l o .1 (w .2 .2))))
+      (decided (member i g))))
+
+pub maximal-by-missing : (n : ℕ) (required : List ℕ) (g : ℕ) → n ≤ 16
+    → (maximal n required g ≡ true)
+    ↔ (((s : ℕ) → s ∈ required → inside s g ≡ false)
+    × ((i : ℕ) → 1 ≤ i → i ≤ n → member i g ≡ false → (s : ℕ) × (s ∈ required) × OnlyLacks g s i))
+maximal-by-missing n required g few = (lacks-each n required g few, each-lacks n required g few)
+
+-- ---- at most eight people
 pub size-le : (n s : ℕ) → n ≤ 8 → s ≡ 2 ^ n → s ≤ 256
 size-le n s few e = let p : 2 ^ n ≤ 2 ^ 8 = pow-mono few in omega arith
-
--- ---- flags
-unset : (n g : ℕ) → flagged (replicate n false) g ≡ false
-unset zero g = refl
-unset (suc n) zero = refl
-unset (suc n) (suc g) = unset n g
-
-pub flags-none : {auth : ℕ → Bool} → Flags auth 0 (replicate 256 false)
-flags-none {auth} = record { count = refl; right = below-none (λ (g : ℕ). flagged (replicate 256 false) g ≡ auth g); rest = λ g l. unset 256 g }
-
-pub flags-more : {auth : ℕ → Bool} {g : ℕ} {f : List Bool} (b : Bool) → g < 256 → b ≡ auth g → Flags auth g f → Flags auth (g + 1) (set f g b)
-flags-more {auth} {g} {f} b p e h = record {
-  count = length-set f g b ∙ h .count;
-  right = below-more (λ (k : ℕ). flagged (set f g b) k ≡ auth k) g
-      (λ k q. getD-set-other f g k b false (λ (x : k ≡ g). let z : ⊥ = omega arith in absurd z) ∙ h .right k q)
-      (getD-set-same f g b false (omega (arith, h .count)) ∙ e);
-  rest = λ k l. getD-set-other f g k b false (λ (x : k ≡ g). let z : ⊥ = omega arith in absurd z) ∙ h .rest k (omega arith);
-}
-
--- two tests that agree on the groups of n people make the same groups maximal
-module _ (n : ℕ) (a b : ℕ → Bool) (same : (g : ℕ) → g < 2 ^ n → a g ≡ b g) where
-  maximal-same : (g : ℕ) → g < 2 ^ n → maximalBy a n g ≡ maximalBy b n g
-  unfolding maximalBy tight
-  maximal-same g p =
-      ap₂ (λ (x y : Bool). not x && y) (same g p)
-      (each-same n (λ i. member i g || a (g + worth i)) (λ i. member i g || b (g + worth i)) (λ i l h. go i l h (member i g) refl))
-    where
-      go : (i : ℕ) → 1 ≤ i → i ≤ n → (m : Bool) → member i g ≡ m → (m || a (g + worth i)) ≡ (m || b (g + worth i))
-      go i l h true e = refl
-      go i l h false e = same (g + worth i) (person-lt n i g p l h e)
-
-  pub groups-same : groupsBy a n ≡ groupsBy b n
-  unfolding groupsBy
-  groups-same = those-same (maximalBy a n) (maximalBy b n) 0 (2 ^ n) (λ g _ p. maximal-same g (omega arith))

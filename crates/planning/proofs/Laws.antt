@@ -9,6 +9,7 @@ use Rattle.planning.specs.Laws as law
 use Rattle.planning.proofs.SetLaws as set
 use Rattle.planning.proofs.CountLaws as count
 use Rattle.planning.proofs.ListedLaws as lists
+use Rattle.planning.proofs.GroupLaws as group
 use Rattle.planning.proofs.HoldingLaws as holding
 use Rattle.planning.proofs.PlaceLaws as place
 use Rattle.planning.proofs.ClashLaws as clash
@@ -43,6 +44,9 @@ clash-families = clash.clash-families
 
 pub clash-places : law.ClashPlaces
 clash-places = clash.clash-places
+
+pub maximal-by-missing : law.MaximalByMissing
+maximal-by-missing = group.maximal-by-missing
 
 pub groups-are : law.GroupsAre
 groups-are = holding.groups-are

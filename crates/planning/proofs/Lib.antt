@@ -1,5 +1,6 @@
 pub mod SetLaws
 pub mod CountLaws
+pub mod LackLaws
 pub mod LoopLaws
 pub mod GroupLaws
 pub mod HoldingLaws

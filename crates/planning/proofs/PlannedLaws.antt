@@ -1,6 +1,7 @@
 -- Planning's answer and its rows, from what its parts say.
 -- Assumes nothing.
 use mathlib.Core.Path.{_≡_, sym, ap, _∙_}
+use mathlib.Core.Bool.{Bool}
 use mathlib.Core.List.{List, [], _∷_}
 use Prim.Native.Nat.{ℕ, _≤_, _<_}
 use lib.ListN.{length}
@@ -12,7 +13,6 @@ use Rattle.answer.specs.declared.Answer.the-variants.{Done, Refused}
 use Rattle.answer.specs.Outcome.{Outcome, done, refused, number, outcome}
 use Rattle.answer.specs.Checks.{Line, firstFail}
 use Rattle.answer.proofs.CheckLaws.{given, stops, goes-on, done-passed}
-use Rattle.planning.specs.declared.table.Plan.{Plan}
 use Rattle.planning.specs.Groups.{groups, pieceCount, rowsOf}
 use Rattle.planning.specs.Policy.{Policy}
 use Rattle.planning.specs.Planned.{clash, wide, listLines, planLines, planned, rowsFor, plannedRows}
@@ -29,11 +29,11 @@ fits : (maximals : List ℕ) → length maximals ≤ 70 → fillSays maximals �
 unfolding fillSays wide firstFail
 fits maximals h = rw (le-ltb _ _ h)
 
-module _ {maximals : List ℕ} {p : Plan} where
-  pub filled-over : 70 < length maximals → outcome (p .answer) ≡ refused (number Wide) 0 0 → p .rows ≡ rowsOf [] → Filled maximals p
+module _ {maximals : List ℕ} {x : Answer} {rows : List (List Bool)} where
+  pub filled-over : 70 < length maximals → outcome x ≡ refused (number Wide) 0 0 → rows ≡ rowsOf [] → Filled maximals x rows
   filled-over h a t = let e = over maximals h in record { says = a ∙ sym e; table = t ∙ ap (λ (o : Outcome ℕ). rowsFor o maximals) (sym e) }
 
-  pub filled-fits : (k : ℕ) → k ≡ length maximals → k ≤ 70 → outcome (p .answer) ≡ done k → p .rows ≡ rowsOf maximals → Filled maximals p
+  pub filled-fits : (k : ℕ) → k ≡ length maximals → k ≤ 70 → outcome x ≡ done k → rows ≡ rowsOf maximals → Filled maximals x rows
   filled-fits k c few a t =
       let e = fits maximals (rw (← c) few) in
       record { says = a ∙ ap done c ∙ sym e; table = t ∙ ap (λ (o : Outcome ℕ). rowsFor o maximals) (sym e) }
@@ -73,12 +73,12 @@ module _ (p : Policy) where
   }
 
   -- ---- the plan
-  pub refused-plan : {x : Plan} {r : Refusal} → outcome (Refused r) ≡ planned p → x .answer ≡ Refused r → x .rows ≡ rowsOf []
-      → (outcome (x .answer) ≡ planned p) × (x .rows ≡ plannedRows p)
+  pub refused-plan : {rows : List (List Bool)} {m a b : ℕ} → refused m a b ≡ planned p → rows ≡ rowsOf []
+      → (refused m a b ≡ planned p) × (rows ≡ plannedRows p)
   unfolding plannedRows
-  refused-plan h a t = (ap outcome a ∙ h, t ∙ ap (λ (o : Outcome ℕ). rowsFor o (groups (p .people) (p .required))) h)
+  refused-plan h t = (h, t ∙ ap (λ (o : Outcome ℕ). rowsFor o (groups (p .people) (p .required))) h)
 
-  pub filled-plan : {x : Plan} {maximals : List ℕ} → Clear → Filled maximals x → maximals ≡ groups (p .people) (p .required)
-      → (outcome (x .answer) ≡ planned p) × (x .rows ≡ plannedRows p)
+  pub filled-plan : {x : Answer} {rows : List (List Bool)} → Clear → Filled (groups (p .people) (p .required)) x rows
+      → (outcome x ≡ planned p) × (rows ≡ plannedRows p)
   unfolding plannedRows
-  filled-plan c h e = (h .says ∙ rw e (sym (c .then)), h .table ∙ rw (e, c .then))
+  filled-plan c h = (h .says ∙ sym (c .then), h .table ∙ rw (c .then))

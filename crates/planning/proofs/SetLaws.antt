@@ -20,7 +20,7 @@ use Rattle.lists.proofs.EachLaws.{each-at, each-of, each-fails}
 abbrev pub bit : ℕ → ℕ → ℕ
 bit p s = s / 2 ^ p % 2
 
-bit-lt : (p s : ℕ) → bit p s < 2
+pub bit-lt : (p s : ℕ) → bit p s < 2
 bit-lt p s = mod-lt (s / 2 ^ p) (lit< tt)
 
 pub bit-zero : (s : ℕ) → bit 0 s ≡ s % 2
@@ -88,7 +88,7 @@ inside-at a b t i l h m =
     ⊎-elim (λ (u : not (member i a) ≡ true). absurd (never (not-so (member i a) u) m)) (λ (u : member i b ≡ true). u)
     (or-cases (not (member i a)) (member i b) (each-at 16 (λ (j : ℕ). not (member j a) || member j b) t i l h))
 
-inside-of : (a b : ℕ) → ((i : ℕ) → 1 ≤ i → i ≤ 16 → member i a ≡ true → member i b ≡ true) → inside a b ≡ true
+pub inside-of : (a b : ℕ) → ((i : ℕ) → 1 ≤ i → i ≤ 16 → member i a ≡ true → member i b ≡ true) → inside a b ≡ true
 unfolding inside
 inside-of a b f =
     each-of 16 (λ (j : ℕ). not (member j a) || member j b)
@@ -121,7 +121,7 @@ pub person-lt : (n i g : ℕ) → g < 2 ^ n → 1 ≤ i → i ≤ n → member i
 person-lt n i g h l k e = more-lt n (i - 1) g h (omega arith) (out-bit i g e)
 
 -- ---- `&`
-bit-and : (q a b : ℕ) → bit q (bitAnd a b) ≡ min (bit q a) (bit q b)
+pub bit-and : (q a b : ℕ) → bit q (bitAnd a b) ≡ min (bit q a) (bit q b)
 bit-and q a b = rw (and-shr a b q, and-step (a / 2 ^ q) (b / 2 ^ q)) (omega arith)
 
 and-inside : (a b : ℕ) → bitAnd a b ≡ a → (q : ℕ) → bit q a ≤ bit q b

@@ -102,6 +102,20 @@ ClashPlaces = (p : Policy) (a b : ℕ) → planned p ≡ refused (number Clash) 
     → IsFirst (λ i. some (inside (at (p .required) i)) (p .forbidden)) 1 (length (p .required) + 1) a
     × IsFirst (λ i. inside (at (p .required) a) (at (p .forbidden) i)) 1 (length (p .forbidden) + 1) b
 
+-- ---- maximal groups
+-- person i is the one member of the set s whom the group g lacks
+abbrev pub OnlyLacks : ℕ → ℕ → ℕ → Type 0
+OnlyLacks g s i =
+    (member i s ≡ true) × (member i g ≡ false) × ((j : ℕ) → 1 ≤ j → j ≤ 16 → member j s ≡ true → member j g ≡ false → j ≡ i)
+
+-- A group is maximal exactly when no required set lies inside it, and each of the n people outside it is the one member whom it lacks of some
+-- required set. The list may be any: a set with a stranger lies in no group of the n people, and none of them is all that such a group lacks of it.
+abbrev pub MaximalByMissing : Type 0
+MaximalByMissing = (n : ℕ) (required : List ℕ) (g : ℕ) → n ≤ 16
+    → (maximal n required g ≡ true)
+    ↔ (((s : ℕ) → s ∈ required → inside s g ≡ false)
+    × ((i : ℕ) → 1 ≤ i → i ≤ n → member i g ≡ false → (s : ℕ) × (s ∈ required) × OnlyLacks g s i))
+
 -- ---- pieces and holdings (000, Theorem 1)
 -- The groups of the pieces are the maximal unauthorised groups.
 abbrev pub GroupsAre : Type 0

@@ -1,71 +1,57 @@
-// The maximal groups and refusal 7, by a flag for each group.
-use crate::sets::authorised;
+// The maximal groups and refusal 7, by asking the required list about each group.
+use crate::sets::alone;
+use crate::sets::either;
+use crate::sets::everyone;
 use crate::sets::group_count;
+use crate::sets::inside;
+use crate::sets::lacking;
 use crate::sets::marks;
-use crate::table::Plan;
-use crate::table::plan_of;
 use answer::Answer;
 use answer::Kind;
 ghost use mathlib.Core.Path.{_≡_};
-ghost use Prim.Native.Nat.{_^_, _≤_, _<_};
-ghost use Rattle.planning.specs.Groups.{authorised, maximalBy, groupsBy};
-ghost use Rattle.planning.specs.Inner.{Flags, Filled, flagged};
+ghost use mathlib.Core.List.{[]};
+ghost use Prim.Native.Nat.{_≤_};
+ghost use Rattle.planning.specs.Groups.{maximal, groups, rowsOf};
+ghost use Rattle.planning.specs.Inner.{Filled};
 
-// For each group of the people, whether it is authorised.
-pub fn flags(people: usize, required: &[u16]) -> [bool; 256]
+// The group g is maximal: no required set lies inside it, and each of the others is the one member that it lacks of some required set.
+fn maximal(required: &[u16], people: usize, g: u16) -> bool
     requires { ⌜ people ≤ 8 ⌝ }
-    ensures { λ r. ⌜ Flags (authorised (now (required .entry))) (2 ^ people) r ⌝ }
+    ensures { λ r. ⌜ r ≡ maximal people (now (required .entry)) g ⌝ }
 {
-    let size = group_count(people);
-    let mut f = [false; 256];
-    let mut g = 0;
-    while g < size {
-        f[g] = authorised(required, g as u16);
-        g += 1;
-    }
-    f
-}
-
-// The group g is unauthorised, and turns authorised by one more of the people, whoever of the others that is, going by the flags.
-fn maximal(f: &[bool; 256], people: usize, g: usize) -> bool
-    requires { ⌜ (people ≤ 8) × (g < 2 ^ people) ⌝ }
-    ensures { λ r. ⌜ r ≡ maximalBy (flagged (now (f .entry))) people g ⌝ }
-{
-    if f[g] {
-        return false;
-    }
-    let mut worth = 1;
+    let mut within = false;
+    let mut found = g;
     let mut i = 0;
-    while i < people {
-        if g / worth % 2 == 0 {
-            if !f[g + worth] {
-                return false;
-            }
-        }
-        worth *= 2;
+    while i < required.len() {
+        let lacks = lacking(required[i], g);
+        within = within | (lacks == 0);
+        found = either(found, alone(lacks));
         i += 1;
     }
-    true
+    if within {
+        return false;
+    }
+    inside(everyone(people), found)
 }
 
-// The pieces and their rows, going by the flags; refusal 7 where a 71st group comes.
-pub fn fill(f: &[bool; 256], people: usize) -> Plan
-    requires { ⌜ people ≤ 8 ⌝ }
-    ensures { λ r. ⌜ Filled (groupsBy (flagged (now (f .entry))) people) r ⌝ }
+// The pieces and their rows, over a table of empty rows; refusal 7 where a 71st group comes, with empty rows again.
+pub fn fill(required: &[u16], people: usize, rows: &mut [[bool; 8]; 70]) -> Answer
+    requires { ⌜ (people ≤ 8) × (now rows ≡ rowsOf []) ⌝ }
+    ensures { λ r. ⌜ Filled (groups people (now (required .entry))) r (now (rows .exit)) ⌝ }
 {
     let size = group_count(people);
-    let mut rows = [[false; 8]; 70];
     let mut k = 0;
     let mut g = 0;
     while g < size {
-        if maximal(f, people, g) {
+        if maximal(required, people, g as u16) {
             if k == 70 {
-                return plan_of(answer::refuse(Kind::Wide, 0, 0), [[false; 8]; 70]);
+                *rows = [[false; 8]; 70];
+                return answer::refuse(Kind::Wide, 0, 0);
             }
             rows[k] = marks(g as u16);
             k += 1;
         }
         g += 1;
     }
-    plan_of(Answer::Done(k), rows)
+    Answer::Done(k)
 }

@@ -94,10 +94,9 @@ pub extern "C" fn titmeadow_plan(
     ensures says { λ r. ⌜ r ≡ said (planned (policyOf people (now (required .entry)) (now (forbidden .entry)))) ⌝ }
     ensures leaves { λ r. ⌜ now (groups .exit) ≡ groupsInto (policyOf people (now (required .entry)) (now (forbidden .entry))) (now (groups .entry)) ⌝ }
 {
-    let plan = planning::plan(people, required, forbidden);
-    match planning::answer_of(plan) {
+    let mut rows = [[false; 8]; 70];
+    match planning::plan_into(people, required, forbidden, &mut rows) {
         Answer::Done(k) => {
-            let rows = planning::rows_of(plan);
             write_groups(&rows, k, groups);
             said_of(Answer::Done(k))
         }

@@ -5,6 +5,7 @@ use borrow.Author.Needs.{needs}
 use Rattle.answer.specs.Outcome.{outcome, done}
 use Rattle.planning.specs.Policy.{policyOf}
 use Rattle.planning.specs.Planned.{planned}
+use Rattle.planning.proofs.RowLaws.{empty-rows}
 use Rattle.dealing.specs.Deal.{Deal, dealFrom}
 use Rattle.dealing.proofs.DealLaws.{refused-deal, refused-out, plan-gives, deals}
 use Rattle.dealing.proofs.deal.Statement.{statement}
@@ -19,41 +20,38 @@ asked s =
 -- planning answered k
 accepted : (c : tie.After-known-told2)
     → planned (asked (c .before .before .before .before .before .before .before .before .before .before) .policy) ≡ done (c .before .k .given .0 .0)
-accepted c =
-    let o = c .before .before .before in
-    sym (o .before .plan .ensures .0) ∙ ap outcome (sym (o .answer-of .ensures) ∙ c .before .k .given .1)
+accepted c = sym (c .before .before .before .plan-into .ensures .0) ∙ ap outcome (c .before .k .given .1)
+
+plan-into-requires : tie.Need-plan-into-requires
+plan-into-requires c κs = empty-rows
 
 deal-planned-requires : tie.Need-deal-planned-requires
 deal-planned-requires c κs =
-    let t = c .before .before .before in
+    let t = c .before .before in
     plan-gives (asked (t .before .before .before .before .before .before .before .before .before .before)) _ (accepted t)
 
 returns : tie.Need-returns
 returns c =
-    let o = c .before .before .before in
-    let s = o .before .before .before .before .before .before .before in
-    let e = sym (o .before .plan .ensures .0) ∙ ap outcome (sym (o .answer-of .ensures) ∙ c .before .r .given .1) in
+    let p = c .before .before .before in
+    let s = p .before .before .before .before .before .before .before in
+    let e = sym (p .plan-into .ensures .0) ∙ ap outcome (c .before .r .given .1) in
     (refused-deal (asked s) _ _ _ e (s .args .holder) _, refused-out (asked s) _ _ _ e (s .args .holder) (s .args .out .now))
 
 returns-2 : tie.Need-returns-2
 returns-2 c =
     let w = c .before .before .deal-planned in
-    let r = c .before .before .before .before .before in
-    let t = r .before in
-    let p = t .before .before .before .before in
-    let s = p .before .before .before .before .before .before in
-    deals (asked s) _ (accepted t) _ (r .rows-of .ensures ∙ p .plan .ensures .1) (s .args .holder) (outcome (w .result)) (s .args .out .now) _
-    (w .ensures .0) (w .ensures .1)
+    let t = c .before .before .before .before .before in
+    let p = t .before .before .before in
+    let s = p .before .before .before .before .before .before .before in
+    deals (asked s) _ (accepted t) _ (p .plan-into .ensures .1) (s .args .holder) (outcome (w .result)) (s .args .out .now) _ (w .ensures .0) (w .ensures .1)
 
 pub deal-spec : {M : Type 1} → statement M
 deal-spec =
     tie.close
     (tie.spec
-    (λ c κs. search needs)
-    (λ c κs. search needs)
+    plan-into-requires
     (λ c. search needs)
     (λ c. search needs)
-    (λ c κs. search needs)
     deal-planned-requires
     returns
     (λ c. search needs)

@@ -1,14 +1,12 @@
 -- `planning::groups::fill` meets its contract: the maximal groups below g have their rows, and k counts them.
 -- Assumes nothing.
-use mathlib.Core.Path.{_≡_, sym, ap, _∙_}
+use mathlib.Core.Path.{_≡_, refl, sym, ap, _∙_}
 use mathlib.Core.Logic.{⊎-elim}
 use Prim.Native.Nat.{_-_, _^_, _≤_}
 use native.Mathlib.Omega.{arith}
 use lib.ListN.{set}
 use borrow.Author.Needs.{needs}
-use Rattle.answer.specs.Outcome.{outcome}
-use Rattle.planning.specs.Groups.{maximalBy, groupsBy}
-use Rattle.planning.specs.Inner.{flagged}
+use Rattle.planning.specs.Groups.{maximal, groupsBy}
 use Rattle.planning.proofs.GroupLaws.{size-le}
 use Rattle.planning.proofs.RowLaws.{empty-rows, Filling, filling-start, filling-miss, filling-hit, filling-as, filling-over, filling-end}
 use Rattle.planning.proofs.PlannedLaws.{filled-over, filled-fits}
@@ -16,33 +14,30 @@ use Rattle.planning.proofs.groups.fill.Statement.{statement}
 use Rattle.planning.proofs.groups.fill.Tie as tie
 
 abbrev Inv-loop : tie.InvT-loop
-Inv-loop f people size rows₀ k₀ g₀ rows k g =
-    (size ≡ 2 ^ people) × (size ≤ 256) × (g ≤ size) × Filling (maximalBy (flagged f) people) g k rows
+Inv-loop required people rows₀ size k₀ g₀ rows k g =
+    (size ≡ 2 ^ people) × (size ≤ 256) × (g ≤ size) × Filling (maximal people required) g k rows
 
 abbrev μ-loop : tie.MeasureT-loop
-μ-loop f people size rows₀ k₀ g₀ rows k g = size - g
+μ-loop required people rows₀ size k₀ g₀ rows k g = size - g
 
 loop-holds : tie.Need-loop-holds Inv-loop μ-loop
-loop-holds c = (c .group-count .ensures, size-le _ _ (c .before .pre) (c .group-count .ensures), search needs, filling-start empty-rows)
-
-maximal-requires : tie.Need-maximal-requires Inv-loop μ-loop
-maximal-requires c κs = (c .before .before .before .pre, omega arith)
+loop-holds c =
+    let p = c .before .before .pre in
+    (c .group-count .ensures, size-le _ _ (p .0) (c .group-count .ensures), search needs, filling-start (p .1))
 
 returns : tie.Need-returns Inv-loop μ-loop
 unfolding groupsBy
 returns c =
-    let m = c .before .before .before .before in
+    let t = c .before .before in
+    let m = t .before .before in
     let l = m .before .before .loop in
-    filled-over
-    (filling-over (l .inv .3) _ (omega arith) (sym (m .maximal .ensures) ∙ c .before .before .before .if1 .taken) (c .before .before .if2 .taken))
-    (ap outcome (c .plan-of .ensures .0) ∙ c .before .refuse .ensures)
-    (c .plan-of .ensures .1 ∙ empty-rows)
+    filled-over (filling-over (l .inv .3) _ (omega arith) (sym (m .maximal .ensures) ∙ t .before .if1 .taken) (t .if2 .taken)) (c .refuse .ensures) empty-rows
 
-mul-rows : tie.Need-mul-rows Inv-loop μ-loop
-mul-rows c = omega (arith, c .before .before .before .before .before .loop .inv .3 .few)
+mul-t15 : tie.Need-mul-t15 Inv-loop μ-loop
+mul-t15 c = omega (arith, c .before .before .before .before .before .loop .inv .3 .few)
 
-array-set-from-rows : tie.Need-array-set-from-rows Inv-loop μ-loop
-array-set-from-rows c = omega (arith, c .before .before .before .before .before .loop .inv .3 .few)
+element-set-from-rows : tie.Need-element-set-from-rows Inv-loop μ-loop
+element-set-from-rows c = omega (arith, c .before .before .before .before .before .loop .inv .3 .few)
 
 add-k : tie.Need-add-k Inv-loop μ-loop
 add-k c = omega (arith, c .before .before .before .before .before .loop .inv .3 .few)
@@ -62,9 +57,9 @@ loop-again c =
 returns-2 : tie.Need-returns-2 Inv-loop μ-loop
 unfolding groupsBy
 returns-2 c =
-    let l = c .before .before .loop in
+    let l = c .before .loop in
     let e = filling-end (l .inv .3) (2 ^ c .before .before .before .before .args .people) (omega arith) in
-    filled-fits (l .k) (sym (e .0)) (l .inv .3 .few) (ap outcome (c .plan-of2 .ensures .0)) (c .plan-of2 .ensures .1 ∙ e .1)
+    filled-fits (l .k) (sym (e .0)) (l .inv .3 .few) refl (e .1)
 
 pub fill-spec : {M : Type 1} → statement M
 fill-spec =
@@ -74,17 +69,16 @@ fill-spec =
     μ-loop
     (λ c κs. search needs)
     loop-holds
-    maximal-requires
+    (λ c. search needs)
     (λ c κs. search needs)
     (λ c κs. search needs)
     returns
     (λ c. search needs)
     (λ c κs. search needs)
-    mul-rows
-    array-set-from-rows
+    mul-t15
+    element-set-from-rows
     add-k
     (λ c. search needs)
     (λ c. search needs)
     loop-again
-    (λ c κs. search needs)
     returns-2)

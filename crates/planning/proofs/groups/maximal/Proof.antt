@@ -1,66 +1,38 @@
--- `planning::groups::maximal` meets its contract: each person passed is in the group, or makes it authorised.
+-- `planning::groups::maximal` meets its contract: the sets still ahead say, with what was found, the same as the whole required list.
 -- Assumes nothing.
-use mathlib.Core.Path.{sym}
-use mathlib.Core.Logic.{⊎-elim}
-use Prim.Native.Nat.{_+_, _-_, _≤_, _<_}
+use mathlib.Core.Path.{ap, _∙_}
+use Prim.Native.Nat.{ℕ, _-_, _≤_}
 use native.Mathlib.Omega.{arith}
-use lib.Pow.{pow-pos}
+use lib.ListN.{length}
 use borrow.Author.Needs.{needs}
-use borrow.Author.Tests.{not-true, not-false}
-use Rattle.planning.specs.Inner.{flagged}
-use Rattle.planning.proofs.GroupLaws.{Walked, walk-start, walk-in, walk-adds, walk-fails, walk-end, authorised-not-maximal, group-lt, more-group-lt, worth-le}
+use Rattle.planning.specs.Sets.{inside}
+use Rattle.planning.proofs.GroupLaws.{Walked, walk-start, walk-next, walk-inside, walk-end}
 use Rattle.planning.proofs.groups.maximal.Statement.{statement}
 use Rattle.planning.proofs.groups.maximal.Tie as tie
 
 abbrev Inv-loop : tie.InvT-loop
-Inv-loop f people g worth₀ i₀ worth i = (i ≤ people) × Walked (flagged f) g i worth
+Inv-loop required people g within₀ found₀ i₀ within found i = Walked required g i within found
 
 abbrev μ-loop : tie.MeasureT-loop
-μ-loop f people g worth₀ i₀ worth i = people - i
-
-element-copy-out-if1 : tie.Need-element-copy-out-if1 Inv-loop μ-loop
-element-copy-out-if1 c = group-lt _ _ (c .pre .0) (c .pre .1)
-
-returns : tie.Need-returns Inv-loop μ-loop
-returns c = sym (authorised-not-maximal (flagged (c .before .before .args .f .now)) _ _ (c .if1 .taken))
+μ-loop required people g within₀ found₀ i₀ within found i = length required - i
 
 loop-holds : tie.Need-loop-holds Inv-loop μ-loop
-loop-holds c = (search needs, walk-start (c .if1 .left))
-
-div-if2 : tie.Need-div-if2 Inv-loop μ-loop
-div-if2 c = omega (arith, pow-pos (c .before .loop .i), c .before .loop .inv .1 .next-worth)
-
--- the person is not in the group: with that person more, the group has a flag
-room : (c : tie.Then2 Inv-loop μ-loop) → c .before .before .before .before .before .args .g + c .before .before .loop .worth < 256
-room c =
-    let s = c .before .before .before .before .before in
-    let l = c .before .before .loop in
-    more-group-lt (s .args .people) (s .args .g) (l .i) _ (s .pre .0) (s .pre .1) (c .before .loop-test .taken) (l .inv .1 .next-worth) (c .if2 .taken)
-
-add-if3 : tie.Need-add-if3 Inv-loop μ-loop
-add-if3 c = omega (arith, room c)
-
-element-copy-out-if3 : tie.Need-element-copy-out-if3 Inv-loop μ-loop
-element-copy-out-if3 c = room c
-
-returns-2 : tie.Need-returns-2 Inv-loop μ-loop
-returns-2 c =
-    let t = c .before .before in
-    sym (walk-fails (t .before .before .loop .inv .1) _ (t .before .loop-test .taken) (t .if2 .taken) (not-true _ (c .if3 .taken)))
-
-mul-worth : tie.Need-mul-worth Inv-loop μ-loop
-mul-worth c =
-    let s = c .before .before .before .before .before in
-    let l = c .before .before .loop in
-    omega (arith, worth-le (s .args .people) (l .i) (l .worth) (s .pre .0) (c .before .loop-test .taken) (l .inv .1 .next-worth))
+loop-holds c = walk-start _ _
 
 loop-again : tie.Need-loop-again Inv-loop μ-loop
 loop-again c =
-    let h = c .before .before .loop .inv .1 in
-    (search needs, ⊎-elim (λ w. walk-adds h (not-false _ (w .2 .left))) (λ w. walk-in h (w .left)) (c .if2 .came))
+    let k = c .before .before in
+    walk-next (k .before .before .before .loop .inv) (omega arith) (k .lacking .ensures) (c .before .alone .ensures) (c .either .ensures)
 
-returns-3 : tie.Need-returns-3 Inv-loop μ-loop
-returns-3 c = sym (walk-end (c .before .loop .inv .1) _ (omega arith))
+returns : tie.Need-returns Inv-loop μ-loop
+returns c = walk-inside (c .before .before .loop .inv) _ (c .if1 .taken)
+
+returns-2 : tie.Need-returns-2 Inv-loop μ-loop
+returns-2 c =
+    let e = c .before .before in
+    let l = e .before .before .loop in
+    let few : e .before .before .before .before .args .people ≤ 16 = omega (arith, e .before .before .before .before .pre) in
+    c .inside .ensures ∙ ap (λ (s : ℕ). inside s (l .found)) (c .before .everyone .ensures) ∙ walk-end (l .inv) _ few (omega arith) (e .if1 .left)
 
 pub maximal-spec : {M : Type 1} → statement M
 maximal-spec =
@@ -68,15 +40,16 @@ maximal-spec =
     (tie.spec
     Inv-loop
     μ-loop
-    element-copy-out-if1
-    returns
     loop-holds
-    div-if2
-    add-if3
-    element-copy-out-if3
-    returns-2
-    mul-worth
+    (λ c. search needs)
+    (λ c. search needs)
+    (λ c κs. search needs)
+    (λ c κs. search needs)
+    (λ c κs. search needs)
     (λ c. search needs)
     (λ c. search needs)
     loop-again
-    returns-3)
+    returns
+    (λ c κs. search needs)
+    (λ c κs. search needs)
+    returns-2)
