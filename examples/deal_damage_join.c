@@ -1,7 +1,7 @@
-/* Deals to four custodians, damages a card and joins: what the unit does with a good pile, a short one, a dirty one and a torn one. Then
- * splits a key among the four and restores it.
+/* Deals to four custodians, damages a card and joins: what the unit does with a good pile, a short one, a dirty one and a torn one. Salvages the
+ * dirty one. Then splits a key among the four and restores it.
  *   rt staticlib titmeadow && cc -I include examples/deal_damage_join.c target/staticlib/libtitmeadow.a -o target/example && target/example
- * It prints its ten answers and ends with status 0 where they are those that SCOPE gives. */
+ * It prints its twelve answers and ends with status 0 where they are those that SCOPE gives. */
 #include <stdio.h>
 #include <string.h>
 #include "titmeadow.h"
@@ -63,6 +63,11 @@ int main(void) {
     length = cards(1, 2, pile, sizeof pile);
     memcpy(pile + TITMEADOW_BLOCK_BYTES + 14, "\x7f\xff", 2); /* the reader could not read the first value of block 2 */
     good &= is("a dirty slot", titmeadow_join(pile, length, joined, TITMEADOW_SECRET_MOST), TITMEADOW_UNREAD, 2, 8) && joined[0] == 1234;
+
+    uint16_t list[2 * 4]; /* a place, block and word, for each of up to four blocks */
+    good &= is("it is salvaged", titmeadow_salvage(pile, length, list, 2 * 4), 0, 1, 0) && list[0] == 2 && list[1] == 8;
+    joined[0] = 0;
+    good &= is("and joined", titmeadow_join(pile, length, joined, TITMEADOW_SECRET_MOST), 0, 1, 0) && joined[0] == 1234;
 
     const uint8_t key[] = "fifteen letters"; /* and the zero behind them */
     uint8_t restored[TITMEADOW_KEY_BYTES] = {0};

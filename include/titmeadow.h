@@ -59,7 +59,7 @@ enum titmeadow_refusal {
     TITMEADOW_HOLDER = 9,    /* the holder is 0 or exceeds the number of people */
     TITMEADOW_SECRET = 10,   /* no words, or more than 16, or a key not of 16 bytes (a = 0); else some word exceeds 32748; a: the first such word */
     TITMEADOW_RANDOM = 11,   /* not w(k - 1) words (a = 0); else some word exceeds 32748; a: the first such word */
-    TITMEADOW_ROOM = 12,     /* the result does not fit in the lent buffer; a: how many blocks or words it has, and of a key its 16 bytes */
+    TITMEADOW_ROOM = 12,     /* the lent buffer is too short; a: the blocks or words of the result, of a key its 16 bytes, and in salvaging the blocks of the pile */
     TITMEADOW_TORN = 13,     /* bytes are left over after the whole blocks */
     TITMEADOW_LONG = 14,     /* there are more than 560 blocks */
     TITMEADOW_UNREAD = 15,   /* some word of a block exceeds 32748; a: the block, b: the first such word */
@@ -102,6 +102,16 @@ titmeadow_answer titmeadow_join_by_differences(const uint8_t *pile, size_t lengt
 /* Opening the first block of a pile: the result is 7, and its words 1 to 7 are written to the seven places of head.
  * Refuses 13 (fewer than 512 bytes; a = 0, since there is no block); 15, 16, 17, each with a = 1. */
 titmeadow_answer titmeadow_open(const uint8_t *pile, size_t length, uint16_t head[TITMEADOW_PLACES(TITMEADOW_HEAD_WORDS)]);
+
+/* Salvaging a scratched pile, where it stands: a block in which one word alone exceeds 32748 gets that word back from its check, which
+ * leaves a single value of 0 to 32748 for it. A block that is not as the layout has it with that value stays as it was, and so does one
+ * with no such word or with several. The result is the number of words rebuilt: so many words of the pile are not what they were. Block and
+ * word of each, two numbers for a place, are written to the front of list, in pile order. A block that was good before one of its words was
+ * lost, and lost nothing else, is that block again; where another word was read wrong besides, the value fits the wrong words, and the block
+ * may pass every check. numbers counts the numbers of list; as many places as the pile has blocks are asked for,
+ * so 2 * TITMEADOW_PILE_MOST numbers are enough for every pile. Refuses 13, 14, 12 (a: the blocks of the pile), in this order; pile and list
+ * are then as they were. Of a pile that was not salvaged, joining still says 15. */
+titmeadow_answer titmeadow_salvage(uint8_t *pile, size_t length, uint16_t *list, size_t numbers);
 
 /* A key has 16 bytes, which are one number of 128 bits, the first byte the highest. The same number is ten words of 13 bits, the first
  * word the highest: that one is at most 2047, the others at most 8191. Every key has one such list of words, and every such list one key.

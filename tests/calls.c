@@ -1,6 +1,6 @@
 /* Every exported call with every refusal that it can give: its number, both places, and all that was lent to be written, compared whole;
- * results and NULL for a count of 0 as well. tests/cards.c, piles.c and keys.c have the cases; what they expect is worked out from
- * docs/SCOPE.md, by hand where no rule is written here. It prints for each call the numbers that were met, 0 for a result; its status is
+ * results and NULL for a count of 0 as well. tests/cards.c, piles.c, salvage.c and keys.c have the cases; what they expect is worked out
+ * from docs/SCOPE.md, by hand where no rule is written here. It prints for each call the numbers that were met, 0 for a result; its status is
  * 0 only where all was as expected, and each call was seen to give all that it can. tools/firmware builds it, runs it and holds what it
  * prints to the header and to the archive. */
 #include <stdio.h>
@@ -18,6 +18,7 @@ static const struct {
     [JOIN] = {"titmeadow_join", {12, 13, 14, 15, 16, 17, 18, 19, 20}},
     [JOIN_BY_DIFFERENCES] = {"titmeadow_join_by_differences", {12, 13, 14, 15, 16, 17, 18, 19, 20}},
     [OPEN] = {"titmeadow_open", {13, 15, 16, 17}},
+    [SALVAGE] = {"titmeadow_salvage", {12, 13, 14}},
     [PACK] = {"titmeadow_pack", {10}},
     [UNPACK] = {"titmeadow_unpack", {12, 23}},
     [DEAL_KEY] = {"titmeadow_deal_key", {1, 2, 3, 4, 5, 6, 8, 9, 10, 11, 12, 22}},
@@ -134,6 +135,7 @@ int main(void) {
         paint = paints[i];
         cards();
         piles();
+        salvage();
         keys();
     }
     return summary();

@@ -13,11 +13,12 @@
 enum { BLOCK = TITMEADOW_BLOCK_BYTES };
 
 /* the exported calls; tests/calls.c has the refusals that each can give */
-enum call { PLAN, DEAL, JOIN, JOIN_BY_DIFFERENCES, OPEN, PACK, UNPACK, DEAL_KEY, JOIN_KEY, CALLS };
+enum call { PLAN, DEAL, JOIN, JOIN_BY_DIFFERENCES, OPEN, SALVAGE, PACK, UNPACK, DEAL_KEY, JOIN_KEY, CALLS };
 
-/* The cases: planning and dealing; joining and opening; keys. */
+/* The cases: planning and dealing; joining and opening; salvaging; keys. */
 void cards(void);
 void piles(void);
+void salvage(void);
 void keys(void);
 
 /* Paints the field anew, and lends from its middle. */

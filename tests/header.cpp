@@ -4,7 +4,7 @@
 
 int main() {
     uint16_t groups[TITMEADOW_PIECES_MOST], head[TITMEADOW_HEAD_WORDS], secret[TITMEADOW_SECRET_MOST];
-    uint16_t words[TITMEADOW_KEY_WORDS];
+    uint16_t words[TITMEADOW_KEY_WORDS], list[2 * TITMEADOW_PILE_MOST];
     uint8_t key[TITMEADOW_KEY_BYTES] = {0};
     static uint8_t card[TITMEADOW_CARD_MOST * TITMEADOW_BLOCK_BYTES];
     const uint16_t required[] = {1 + 2, 2 + 4, 4 + 8}, word[] = {1234}, randomness[] = {5, 7};
@@ -15,6 +15,7 @@ int main() {
     good &= titmeadow_deal_key(4, required, 3, nullptr, 0, 7, 4, key, sizeof key, nullptr, 0, card, sizeof card).number == TITMEADOW_RANDOM;
     good &= titmeadow_join_key(card, TITMEADOW_BLOCK_BYTES, key, sizeof key).number == TITMEADOW_SHORT;
     good &= titmeadow_open(card, TITMEADOW_BLOCK_BYTES, head).a == TITMEADOW_HEAD_WORDS;
+    good &= titmeadow_salvage(card, TITMEADOW_BLOCK_BYTES, list, 2 * TITMEADOW_PILE_MOST).a == 0;
     good &= titmeadow_join(card, TITMEADOW_BLOCK_BYTES, secret, TITMEADOW_SECRET_MOST).number == TITMEADOW_SHORT;
     good &= titmeadow_join_by_differences(card, TITMEADOW_BLOCK_BYTES, secret, TITMEADOW_SECRET_MOST).number == TITMEADOW_SHORT;
     return good ? 0 : 1;

@@ -11,6 +11,7 @@ static uint8_t pile[560 * 512], card[35 * 512], few[70 * 512];
 static uint8_t key_pile[560 * 512], key[16];
 static size_t key_piled;
 static uint16_t required[256], groups[70], secret[16], words[16], randomness[16 * 69], head[7];
+static uint16_t list[2 * 560];
 static size_t sets, piled, fewer;
 static volatile size_t sink;
 /* a policy, and how many pieces it has */
@@ -25,6 +26,10 @@ static void join_by_differences(void) { sink = titmeadow_join_by_differences(pil
 static void join_few(void) { sink = titmeadow_join(few, fewer, words, 16).number; }
 static void join_few_by_differences(void) { sink = titmeadow_join_by_differences(few, fewer, words, 16).number; }
 static void open(void) { sink = titmeadow_open(pile, piled, head).a; }
+static void salvage(void) {
+    pile[14] = 0x7f, pile[15] = 0xff; /* a value of block 1, which comes back */
+    sink = titmeadow_salvage(pile, piled, list, 2 * 560).a;
+}
 static void pack(void) { sink = titmeadow_pack(key, 16, words).a; }
 static void unpack(void) { sink = titmeadow_unpack(secret, 10, key, 16).a; }
 static void deal_key(void) { sink = titmeadow_deal_key(8, required, sets, required, 0, 7, 3, key, 16, randomness, 10 * 69, card, sizeof card).a; }
@@ -152,8 +157,8 @@ int main(void) {
                                               sizeof key_pile - key_piled).a;
     struct { const char *name; void (*f)(void); } calls[] = {
         {"titmeadow_plan", plan}, {"titmeadow_deal", deal}, {"titmeadow_join", join}, {"titmeadow_join_by_differences", join_by_differences},
-        {"titmeadow_open", open}, {"titmeadow_pack", pack}, {"titmeadow_unpack", unpack}, {"titmeadow_deal_key", deal_key},
-        {"titmeadow_join_key", join_key}};
+        {"titmeadow_open", open}, {"titmeadow_salvage", salvage}, {"titmeadow_pack", pack}, {"titmeadow_unpack", unpack},
+        {"titmeadow_deal_key", deal_key}, {"titmeadow_join_key", join_key}};
     size_t base = used(nothing);
     for (size_t i = 0; i < sizeof calls / sizeof *calls; i++) {
         size_t bytes = used(calls[i].f) - base;

@@ -7,4 +7,5 @@ pub mod met;
 pub mod mixed;
 pub mod numbers;
 pub mod reference;
+pub mod scratched;
 pub mod unit;

@@ -5,11 +5,13 @@ mod heaps;
 mod joined;
 mod keys;
 mod programs;
+mod salvage;
 
 pub use heaps::{heaps, outside, Label};
 pub use joined::{by_differences, join, join_by_differences, weights};
 pub use keys::{deal_key, join_key, pack, unpack};
-pub use programs::{joining, listing, read_policy};
+pub use programs::{joining, listing, read_policy, salvaging};
+pub use salvage::{salvage, value_for};
 
 /// The prime of the build.
 pub const P: u64 = 32749;

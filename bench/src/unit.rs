@@ -51,6 +51,11 @@ pub fn open(pile: &[u8], head: &mut [u16; 7]) -> Result<usize, Refusal> {
     calls::open(pile, head).result()
 }
 
+/// The pile salvaged where it stands, block and word of each word rebuilt into the front of `list`; how many they are.
+pub fn salvage(pile: &mut [u8], list: &mut [u16]) -> Result<usize, Refusal> {
+    calls::salvage(pile, list).result()
+}
+
 /// A key's ten words into `words`; how many they are.
 pub fn pack(key: &[u8], words: &mut [u16; 10]) -> Result<usize, Refusal> {
     calls::pack(key, words).result()

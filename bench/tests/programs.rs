@@ -1,13 +1,15 @@
-//! The two programs, target/bin/list and target/bin/join, against the independent implementation, byte for byte: random policy texts with
-//! damaged lines, and random piles.
+//! The programs, target/bin/list, join and salvager, against the independent implementation, byte for byte: random policy texts with damaged
+//! lines, random piles, and scratched ones.
 use bench::inputs;
 use bench::numbers::Numbers;
-use bench::reference::{joining, listing};
+use bench::reference::{joining, listing, salvaging};
+use bench::scratched;
 use std::io::Write;
 use std::path::Path;
 use std::process::{Command, Stdio};
 
-fn run(name: &str, input: &[u8]) -> Vec<u8> {
+/// What a program writes to standard output and to standard error.
+fn run(name: &str, input: &[u8]) -> (Vec<u8>, Vec<u8>) {
     let top = Path::new(env!("CARGO_MANIFEST_DIR")).parent().unwrap();
     let program = top.join("target/bin").join(name);
     let mut running = Command::new(top.join("tools/x86-64"))
@@ -15,11 +17,13 @@ fn run(name: &str, input: &[u8]) -> Vec<u8> {
         .arg(&program)
         .stdin(Stdio::piped())
         .stdout(Stdio::piped())
+        .stderr(Stdio::piped())
         .spawn()
         .unwrap_or_else(|e| panic!("{}: {e}; rt check {name} builds it", program.display()));
     // a program that has read enough closes its input
     running.stdin.take().unwrap().write_all(input).ok();
-    running.wait_with_output().unwrap().stdout
+    let ended = running.wait_with_output().unwrap();
+    (ended.stdout, ended.stderr)
 }
 
 /// A policy text of a random policy, often with one or two bytes changed, taken out or put in.
@@ -55,7 +59,7 @@ fn listings() {
     let mut n = Numbers::new(21);
     for _ in 0..2_000 {
         let text = text(&mut n);
-        assert_eq!(run("list", &text), listing(&text), "{:?}", String::from_utf8_lossy(&text));
+        assert_eq!(run("list", &text), (listing(&text), Vec::new()), "{:?}", String::from_utf8_lossy(&text));
     }
 }
 
@@ -65,6 +69,19 @@ fn joined_piles() {
     for _ in 0..1_000 {
         let d = inputs::good_deal(&mut n);
         let pile = inputs::pile(&mut n, &d);
-        assert_eq!(run("join", &pile), joining(&pile), "{d:?}");
+        assert_eq!(run("join", &pile), (joining(&pile), Vec::new()), "{d:?}");
+    }
+}
+
+#[test]
+fn salvaged_piles() {
+    let mut n = Numbers::new(23);
+    for _ in 0..1_000 {
+        let d = inputs::good_deal(&mut n);
+        let (_, lost, _) = scratched::pile(&mut n, &inputs::blocks(&d, (1 << d.people) - 1));
+        let (bytes, text) = run("salvager", &lost);
+        let (their_bytes, their_text) = salvaging(&lost);
+        assert_eq!(String::from_utf8_lossy(&text), String::from_utf8_lossy(&their_text));
+        assert!(bytes == their_bytes, "another pile, {d:?}");
     }
 }

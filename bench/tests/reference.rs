@@ -121,6 +121,78 @@ fn heaps_and_the_first_block_outside() {
     }
 }
 
+/// Of P11's block the words before the value come to 2057 in the check, and 8 times 1246 makes 12025: each word that is lost comes back.
+#[test]
+fn p11_salvaged() {
+    let block = card(&p11(), 4);
+    for i in 1..=256 {
+        for slot in [32749, 32767, 65535] {
+            let mut words = words_of(&block);
+            words[i - 1] = slot;
+            let (mut pile, mut list) = (bytes_of(&words), [9; 3]);
+            assert_eq!(salvage(&mut pile, &mut list), Ok(1));
+            assert_eq!((pile.to_vec(), list), (block.clone(), [1, i as u16, 9]));
+        }
+    }
+}
+
+/// Of all 32749 values one makes the check come out.
+#[test]
+fn one_value_for_a_word() {
+    for i in [1, 2, 7, 8, 128, 255, 256] {
+        let mut words = words_of(&card(&p11(), 4));
+        let found: Vec<u16> = (0..=32748)
+            .filter(|value| {
+                words[i - 1] = *value;
+                check(&words) == words[255]
+            })
+            .collect();
+        assert_eq!(found, vec![value_for(&words, i)], "word {i}");
+    }
+}
+
+/// P11's block with one word changed, its check left, and one word lost.
+#[test]
+fn salvaged_with_another_fault() {
+    let salvaged = |changes: &[(usize, u16)]| {
+        let mut words = words_of(&card(&p11(), 4));
+        for (i, value) in changes {
+            words[i - 1] = *value;
+        }
+        let (mut pile, mut list) = (bytes_of(&words), [9; 2]);
+        let said = salvage(&mut pile, &mut list);
+        (words_of(&pile) == words, words_of(&pile), said, list)
+    };
+    // value 1247 for 1246: word 9 would have to be -8/9, and word 7 -1/7, which is 23392; neither may be, and all stays
+    for lost in [9, 7] {
+        let (same, _, said, list) = salvaged(&[(8, 1247), (lost, 32767)]);
+        assert_eq!((same, said, list), (true, Ok(0), [9, 9]));
+    }
+    // holder 3 for 4: the value would have to be (12025 - 2054)/8, which is 5340; that is a true block, though it is not the one dealt
+    let (_, words, said, list) = salvaged(&[(3, 3), (8, 32767)]);
+    assert_eq!((words[2], words[7], words[255], said, list), (3, 5340, 12025, Ok(1), [1, 8]));
+    // the mark lost where word 256 is 0: no mark but 1987 is one
+    let (same, _, said, _) = salvaged(&[(1, 32767), (256, 0)]);
+    assert_eq!((same, said), (true, Ok(0)));
+    // two words lost
+    let (same, _, said, list) = salvaged(&[(8, 32767), (256, 32767)]);
+    assert_eq!((same, said, list), (true, Ok(0), [9, 9]));
+}
+
+#[test]
+fn salvage_program() {
+    let mut pile = [card(&p11(), 1), card(&p11(), 2)].concat();
+    let good = pile.clone();
+    assert_eq!(salvaging(&pile), (good.clone(), b"rebuilt 0\n".to_vec()));
+    pile[2 * BLOCK..2 * BLOCK + 2].copy_from_slice(&[127, 255]);
+    pile[BLOCK - 2..BLOCK].copy_from_slice(&[128, 0]);
+    assert_eq!(salvaging(&pile), (good, b"rebuilt 2\nblock 1 word 256\nblock 3 word 1\n".to_vec()));
+    assert_eq!(salvaging(&pile[1..]), (vec![], b"refused 13 0 0\n".to_vec()));
+    assert_eq!(salvaging(&[0; 65537]), (vec![], b"refused 14 0 0\n".to_vec()));
+    assert_eq!(salvaging(&[]), (vec![], b"rebuilt 0\n".to_vec()));
+    assert_eq!(salvaging(&[0; 65536]), (vec![0; 65536], b"rebuilt 0\n".to_vec()));
+}
+
 #[test]
 fn eight_people_any_five() {
     let fives: Vec<u16> = (0..256).filter(|set: &u16| set.count_ones() == 5).collect();

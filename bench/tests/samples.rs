@@ -1,7 +1,7 @@
 //! The files of samples/ are, byte for byte, what the proved dealer writes, the policy text there is the one that they were dealt by, and what
 //! README's walk shows of them is so.
 use bench::cards::{example_1, samples};
-use bench::reference::{joining, read_policy};
+use bench::reference::{joining, read_policy, salvaging};
 use std::path::{Path, PathBuf};
 
 fn folder() -> PathBuf {
@@ -35,6 +35,9 @@ fn the_walk() {
     says(&["card1", "card2", "card5", "card6"], "secret 1234 0 32748 5678\n");
     says(&["card1", "card3"], "refused 20 6 12\n");
     says(&["dirty"], "refused 15 5 9\n");
+    let (pile, report) = salvaging(&cat(&["dirty"]));
+    assert!(pile == cat(&["card1", "card2", "card5", "card6"]));
+    assert_eq!(report, b"rebuilt 1\nblock 5 word 9\n");
     // four blocks of another deal, on three, five and five: wherever they lie, they are named
     says(&["old2", "card1", "card5", "card6"], "refused 18 1 0\n");
     says(&["card1", "old2", "card5", "card6"], "refused 18 4 0\n");

@@ -134,6 +134,36 @@ fn join(name: &str, pile: &[u8]) {
     );
 }
 
+/// Salvaging 560 blocks where they stand. Where words were lost, each call has the scratched pile copied over the one before.
+fn salvage(good: &[u8]) {
+    let mut lost = good.to_vec();
+    for (at, block) in lost.chunks_exact_mut(BLOCK).enumerate() {
+        inputs::with_word(block, 1 + at % 256, 32767, false);
+    }
+    for (name, pile, count) in [("salvaging 560 blocks, no word lost", good, 0), ("salvaging 560 blocks, a word of each lost, and copying them", &lost, 560)] {
+        let (mut ours, mut theirs) = (pile.to_vec(), pile.to_vec());
+        let (mut list, mut their_list) = ([0; 1120], [0; 1120]);
+        assert_eq!(unit::salvage(&mut ours, &mut list), Ok(count));
+        assert_eq!(reference::salvage(&mut theirs, &mut their_list), Ok(count));
+        assert!(ours == good && theirs == good && list == their_list);
+        compare(
+            name,
+            || {
+                if count > 0 {
+                    ours.copy_from_slice(pile);
+                }
+                black_box(unit::salvage(black_box(&mut ours), &mut list)).ok();
+            },
+            || {
+                if count > 0 {
+                    theirs.copy_from_slice(pile);
+                }
+                black_box(reference::salvage(black_box(&mut theirs), &mut their_list)).ok();
+            },
+        );
+    }
+}
+
 /// Mixed piles as large as can be, all blocks true, up to MIXED: 560 deals of a block each, and two heaps of 280 whose blocks take turns.
 fn mixed() {
     let values = secret();
@@ -206,6 +236,7 @@ fn main() {
     let all = pieces(&d);
     let many: Vec<u8> = (0..560).flat_map(|i| all[i % 70].clone()).collect();
     join("joining 560 blocks of 70 pieces", &many);
+    salvage(&many);
     for blocks in [70, 140, 280] {
         join(&format!("joining {blocks} blocks of 70 pieces"), &many[..blocks * BLOCK]);
     }

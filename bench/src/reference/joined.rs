@@ -2,7 +2,8 @@
 
 use super::{complete, Refusal, P};
 
-fn power(base: u64, mut exponent: u64) -> u64 {
+/// A power of a number, mod p.
+pub(super) fn power(base: u64, mut exponent: u64) -> u64 {
     let (mut base, mut result) = (base % P, 1);
     while exponent > 0 {
         if exponent & 1 == 1 {

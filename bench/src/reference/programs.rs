@@ -1,6 +1,6 @@
-//! The two programs (SCOPE 7): a policy text to its listing, a pile to its line.
+//! The programs (SCOPE 7): a policy text to its listing, a pile to its line, a scratched pile to the salvaged one.
 
-use super::{held, join, plan, refuse, Refusal};
+use super::{held, join, plan, refuse, salvage, Refusal};
 
 fn refused(r: Refusal) -> Vec<u8> {
     format!("refused {} {} {}\n", r.number, r.a, r.b).into_bytes()
@@ -94,5 +94,20 @@ pub fn joining(pile: &[u8]) -> Vec<u8> {
             format!("secret{}\n", words.concat()).into_bytes()
         }
         Err(r) => refused(r),
+    }
+}
+
+/// What the salvaging program writes to standard output and what it says on standard error.
+pub fn salvaging(pile: &[u8]) -> (Vec<u8>, Vec<u8>) {
+    if pile.len() > 65536 {
+        return (Vec::new(), refused(Refusal { number: 14, a: 0, b: 0 }));
+    }
+    let (mut pile, mut list) = (pile.to_vec(), [0; 256]);
+    match salvage(&mut pile, &mut list) {
+        Ok(count) => {
+            let places: String = list.chunks(2).take(count).map(|place| format!("block {} word {}\n", place[0], place[1])).collect();
+            (pile, format!("rebuilt {count}\n{places}").into_bytes())
+        }
+        Err(r) => (Vec::new(), refused(r)),
     }
 }

@@ -29,6 +29,7 @@ extern "C" {
     fn titmeadow_join(pile: *const u8, length: usize, secret: *mut u16, room: usize) -> Answer;
     fn titmeadow_join_by_differences(pile: *const u8, length: usize, secret: *mut u16, room: usize) -> Answer;
     fn titmeadow_open(pile: *const u8, length: usize, head: *mut u16) -> Answer;
+    fn titmeadow_salvage(pile: *mut u8, length: usize, list: *mut u16, numbers: usize) -> Answer;
     fn titmeadow_pack(key: *const u8, length: usize, words: *mut u16) -> Answer;
     fn titmeadow_unpack(words: *const u16, count: usize, key: *mut u8, room: usize) -> Answer;
     fn titmeadow_deal_key(
@@ -83,6 +84,10 @@ pub fn join_by_differences(pile: &[u8], out: &mut [u16]) -> Answer {
 
 pub fn open(pile: &[u8], head: &mut [u16; 7]) -> Answer {
     unsafe { titmeadow_open(pile.as_ptr(), pile.len(), head.as_mut_ptr()) }
+}
+
+pub fn salvage(pile: &mut [u8], list: &mut [u16]) -> Answer {
+    unsafe { titmeadow_salvage(pile.as_mut_ptr(), pile.len(), list.as_mut_ptr(), list.len()) }
 }
 
 pub fn pack(key: &[u8], words: &mut [u16; 10]) -> Answer {

@@ -91,6 +91,18 @@ pub fn open(pile: &[u8], head: &mut [u16; 7]) -> Answer {
     ask_words(4, [0; 3], [pile, &[], &[], &[]], head)
 }
 
+/// Both are lent to be written, so they go as one, the list in front, where its numbers lie even.
+pub fn salvage(pile: &mut [u8], list: &mut [u16]) -> Answer {
+    let mut lent = bytes(list);
+    lent.extend_from_slice(pile);
+    let said = ask(10, [list.len(), 0, 0], [&[], &[], &[], &[]], &mut lent);
+    for (number, pair) in list.iter_mut().zip(lent.chunks_exact(2)) {
+        *number = u16::from_le_bytes([pair[0], pair[1]]);
+    }
+    pile.copy_from_slice(&lent[2 * list.len()..]);
+    said
+}
+
 pub fn pack(key: &[u8], words: &mut [u16; 10]) -> Answer {
     ask_words(6, [0; 3], [key, &[], &[], &[]], words)
 }

@@ -1,8 +1,8 @@
 -- A true block with one word changed, or with two unequal words of the first 255 exchanged, is refused: UNREAD at that word where it is
 -- above 32748 now, else CHECK, since mod 32749 no factor from 1 to 255 is lost. Assumes nothing.
 use mathlib.Core.Path.{_≡_, refl, sym, ap, _∙_}
-use mathlib.Core.Bool.{Bool, true, false, cond}
-use mathlib.Core.Logic.{_⊎_, inl, inr, ⊎-elim, _≢_}
+use mathlib.Core.Bool.{cond}
+use mathlib.Core.Logic.{⊎-elim, _≢_}
 use mathlib.Core.List.{List, [], _∷_}
 use Prim.Native.Nat.{ℕ, _+_, _-_, _*_, _%_, _≤_, _<_}
 use native.Mathlib.Nat.{eq-or-lt-of-le, add-mul}
@@ -11,7 +11,8 @@ use native.Mathlib.Omega.{arith}
 use lib.Arith.{lt-of-le-ne}
 use lib.Dec.{eqb}
 use lib.ListN.{length}
-use borrow.Author.Tests.{lt-ltb, le-ltb, eqb-true, eqb-false, eq-eqb, ne-eqb}
+use borrow.Author.Tests.{lt-ltb, le-ltb, eq-eqb, ne-eqb}
+use Rattle.lists.proofs.Truth.{same-or-not}
 use Rattle.answer.specs.Outcome.{done, refused}
 use Rattle.answer.specs.Checks.{firstFail}
 use Rattle.prime.proofs.Prime.{cancel-small}
@@ -25,13 +26,6 @@ use Rattle.block.proofs.OpenLaws.{of-small, slots-check, opening-block,
 -- equal sums with equal remainders on the left have equal remainders on the right
 add-cancel : (s t x y : ℕ) → s % 32749 ≡ t % 32749 → s + x ≡ t + y → x % 32749 ≡ y % 32749
 add-cancel s t x y e h = omega arith
-
-same-or-not : (k i : ℕ) → (k ≡ i) ⊎ (k ≢ i)
-same-or-not k i = go (eqb k i) refl
-  where
-    go : (x : Bool) → eqb k i ≡ x → (k ≡ i) ⊎ (k ≢ i)
-    go true e = inl (eqb-true k i e)
-    go false e = inr (eqb-false k i e)
 
 -- ---- what opening answers of a block whose check is wrong
 by-check : (b : List ℕ) → 512 ≤ length b → Small b 256 → checkOf b ≢ wordAt b 256 → opening b ≡ refused 16 1 0

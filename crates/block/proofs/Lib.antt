@@ -1,4 +1,5 @@
 pub mod WordLaws
+pub mod StoreLaws
 pub mod SumLaws
 pub mod DealLaws
 pub mod ZeroLaws

@@ -64,17 +64,20 @@ module _ (b c : List ℕ) (same : (i : ℕ) → 1 ≤ i → i ≤ 256 → wordAt
       ∙ held-value (labelOf c) (valuesOf b) (valuesOf c) i (value-same (i - 8) (omega arith)) in
       ap₂ (λ (x : Bool) (y : Bool). x && y) (ap₂ eqb (same i l (omega arith)) held) (ap (λ (x : Label). rangeAt x i) label-same)
 
+  pub only-wrong : firstWrong b ≡ firstWrong c
+  unfolding firstWrong
+  only-wrong = first-same _ _ 1 256 (λ k l h. ap not (right-same k l (omega arith)))
+
   pub only-lines : (a : ℕ) → blockLines b a ≡ blockLines c a
-  unfolding firstAbove firstWrong
+  unfolding firstAbove
   only-lines a =
       let above-same : firstAbove b ≡ firstAbove c = first-same (above b) (above c) 1 257 (λ k l h. ap (ltb 32748) (same k l (omega arith))) in
       let sum-same : checkOf b ≡ checkOf c = check-same b c (λ i l h. same i l (omega arith)) in
-      let wrong-same : firstWrong b ≡ firstWrong c = first-same _ _ 1 256 (λ k l h. ap not (right-same k l (omega arith))) in
       let last : wordAt b 256 ≡ wordAt c 256 = same 256 (omega arith) (omega arith) in
       λ t.
       line Unread (found (above-same t)) a (above-same t)
       ∷ line Check (not (eqb (sum-same t) (last t))) a 0
-      ∷ line Header (found (wrong-same t)) a (wrong-same t)
+      ∷ line Header (found (only-wrong t)) a (only-wrong t)
       ∷ []
 
   pub only-header : frontWords b ≡ frontWords c

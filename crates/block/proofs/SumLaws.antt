@@ -20,7 +20,7 @@ weighted-step f (suc i) h =
     rw (p, q)
 
 -- words that agree have one sum
-weighted-same : (f g : ℕ → ℕ) (n : ℕ) → ((i : ℕ) → 1 ≤ i → i ≤ n → f i ≡ g i) → weighted f n ≡ weighted g n
+pub weighted-same : (f g : ℕ → ℕ) (n : ℕ) → ((i : ℕ) → 1 ≤ i → i ≤ n → f i ≡ g i) → weighted f n ≡ weighted g n
 unfolding weighted
 weighted-same f g zero h = refl
 weighted-same f g (suc n) h =

@@ -31,12 +31,12 @@ unfolding checkOf
 check-most b = let l : weighted (wordAt b) 255 % 32749 < 32749 = mod-lt (weighted (wordAt b) 255) (omega arith) in omega arith
 
 -- each byte of a block that is written is below 256
-low-append : (xs ys : List ℕ) → ((i : ℕ) → getD xs i 0 < 256) → ((i : ℕ) → getD ys i 0 < 256) → (i : ℕ) → getD (xs ++ ys) i 0 < 256
+pub low-append : (xs ys : List ℕ) → ((i : ℕ) → getD xs i 0 < 256) → ((i : ℕ) → getD ys i 0 < 256) → (i : ℕ) → getD (xs ++ ys) i 0 < 256
 low-append [] ys f g i = g i
 low-append (x ∷ xs) ys f g zero = f zero
 low-append (x ∷ xs) ys f g (suc i) = low-append xs ys (λ k. f (suc k)) g i
 
-block-low : (l : Label) (vs : List ℕ) → ((i : ℕ) → 1 ≤ i → i ≤ 255 → heldAt l vs i ≤ 32748) → (i : ℕ) → getD (blockBytes l vs) i 0 < 256
+pub block-low : (l : Label) (vs : List ℕ) → ((i : ℕ) → 1 ≤ i → i ≤ 255 → heldAt l vs i ≤ 32748) → (i : ℕ) → getD (blockBytes l vs) i 0 < 256
 unfolding blockBytes
 block-low l vs small =
     low-append (bytesOf (body l vs)) (bytesOf (checkOf (bytesOf (body l vs)) ∷ []))

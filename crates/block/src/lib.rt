@@ -10,8 +10,10 @@ pub use deal::deal_words;
 pub use deal::same_deal;
 pub use reading::check_block;
 pub use reading::check_slots;
+pub use reading::first_wrong;
 pub use reading::open;
 pub use reading::values;
+pub use writing::put_word;
 pub use writing::write_at;
 pub use writing::write_block;
 ghost use mathlib.Core.Path.{_≡_};
@@ -54,7 +56,7 @@ pub fn word(b: &[u8], i: usize) -> u16
 
 // One step of a check: the one place where a word enters a sum. No word above 32748 gets there. Each word adds at most
 // 255 x 32748 = 8350740, so the sum of 255 words fits.
-fn weigh(sum: u32, i: usize, v: u16) -> u32
+pub fn weigh(sum: u32, i: usize, v: u16) -> u32
     requires { ⌜ v ≤ 32748 ⌝ }
     requires { ⌜ (1 ≤ i) × (i ≤ 255) × (sum ≤ (i - 1) * 8350740) ⌝ }
     ensures { λ r. ⌜ (r ≡ sum + i * v) × (r ≤ i * 8350740) ⌝ }

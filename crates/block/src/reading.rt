@@ -126,7 +126,7 @@ fn first_filled(b: &[u8], start: usize, end: usize) -> usize
 }
 
 // The first of words 1 to 255 that is not as SCOPE 4 has it, or 0: words 1 to 7, then the words past the values, which are 0.
-fn first_wrong(b: &[u8]) -> usize
+pub fn first_wrong(b: &[u8]) -> usize
     requires { ⌜ 510 ≤ length (now b) ⌝ }
     ensures { λ r. ⌜ r ≡ firstWrong (now (b .entry)) ⌝ }
 {

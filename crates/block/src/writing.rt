@@ -11,7 +11,7 @@ ghost use Rattle.block.specs.Layout.{heldAt};
 ghost use Rattle.block.specs.Written.{blockBytes, Buildable};
 
 // Writes v at word i of b.
-fn put_word(b: &mut [u8], i: usize, v: u16)
+pub fn put_word(b: &mut [u8], i: usize, v: u16)
     requires { ⌜ (1 ≤ i) × (2 * i ≤ length (now b)) ⌝ }
     ensures { λ _. ⌜ now (b .exit) ≡ putAt (now (b .entry)) i v ⌝ }
 {

@@ -14,5 +14,7 @@ pub mod HideLaws
 pub mod RowLaws
 pub mod Demand3
 pub mod Keys
+pub mod ScratchLaws
+pub mod Salvage
 pub mod ReaderLaws
 pub mod Readings

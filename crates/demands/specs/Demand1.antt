@@ -148,10 +148,11 @@ EitherJoins = (pile old : List ℕ) (x : Answer) (out : List ℕ) → JoinPromis
     × ((m a b : ℕ) → outcome x ≡ refused m a b → out ≡ old)
 
 -- ---- No slot above 32748 gets into a sum.
--- Of the code: the sums mod p are in block's `weigh`, in field's `value_at`, `piece_of` and `join_word`, and, of differences, in `subtract`, each
--- of which requires that what enters is at most 32748, and every caller shows it; words that are lengths are added to offsets only after the
--- checks. That no other function sums words is seen by reading the code, and not proved. Of what is answered: joining and dealing give a result
--- only where every slot of every block, and every word of the secret and of the randomness, is at most 32748.
+-- Of the code: the sums mod p are in block's `weigh`, in field's `value_at`, `piece_of` and `join_word`, of differences in `subtract`, and in
+-- salvage's `value_for`, each of which requires that what enters is at most 32748, and every caller shows it (in a block with a dirty word: all
+-- words but that one); words that are lengths are added to offsets only after the checks. That no other function sums words is seen by reading
+-- the code, and not proved. Of what is answered: joining and dealing give a result only where every slot of every block, and every word of the
+-- secret and of the randomness, is at most 32748.
 abbrev pub JoinSmall : Type 0
 JoinSmall = (pile : List ℕ) (room w : ℕ) → joining pile room ≡ done w → (a i : ℕ) → In pile a → 1 ≤ i → i ≤ 256 → word pile a i ≤ 32748
 

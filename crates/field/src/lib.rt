@@ -63,7 +63,7 @@ pub fn values_of(secret: &[u16], random: &[u16], q: usize, j: u16) -> [u16; 16]
 }
 
 // The inverse of a, by the remainders of 32749.
-fn invert(a: u16) -> u16
+pub fn invert(a: u16) -> u16
     requires { ⌜ 0 < a % p ⌝ }
     ensures { λ r. ⌜ r ≡ inverse a ⌝ }
 {

@@ -10,11 +10,12 @@ use borrow.Author.Tests.{lt-ltb, le-ltb}
 use Rattle.answer.specs.Outcome.{Outcome, done, refused}
 use Rattle.answer.specs.Checks.{firstFail}
 use Rattle.answer.proofs.CheckLaws.{given, not-given}
+use Rattle.pile.specs.Lines.{tooLong}
 use Rattle.joining.specs.Joined.{joining, joinedInto}
 use Rattle.joining.specs.Secret.{secret}
 use Rattle.joining.proofs.SixteenLaws.{fits, count, secret-front}
 use Rattle.print.specs.Lines.{refusedLine, secretLine}
-use Rattle.joined_line.specs.Joined.{tooLong, programJoins, lineOf, joinedLine}
+use Rattle.joined_line.specs.Joined.{programJoins, lineOf, joinedLine}
 
 -- ---- over 65,536 bytes, and at most so many
 pub is-long : (pile : List ℕ) → 65536 < length pile → refusedLine 14 0 0 ≡ joinedLine pile

@@ -2,18 +2,12 @@
 -- Assumes nothing.
 use mathlib.Core.List.{List, [], _∷_}
 use Prim.Native.Nat.{ℕ}
-use lib.Dec.{ltb}
-use lib.ListN.{length}
-use Rattle.answer.specs.declared.Kind.the-variants.{Long}
 use Rattle.answer.specs.Outcome.{Outcome, done, refused}
-use Rattle.answer.specs.Checks.{Line, line, firstFail}
+use Rattle.answer.specs.Checks.{firstFail}
+use Rattle.pile.specs.Lines.{tooLong}
 use Rattle.joining.specs.Joined.{joining}
 use Rattle.joining.specs.Secret.{secret}
 use Rattle.print.specs.Lines.{refusedLine, secretLine}
-
--- 14 LONG, of the program: more than 65,536 bytes
-abbrev pub tooLong : List ℕ → Line
-tooLong pile = line Long (ltb 65536 (length pile)) 0 0
 
 -- what the program answers: with room for 16 words, which every secret has
 unfoldable pub programJoins : List ℕ → Outcome ℕ

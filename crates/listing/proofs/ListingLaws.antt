@@ -3,10 +3,9 @@
 use mathlib.Core.Path.{_≡_, refl, ap, ap₂, _∙_}
 use mathlib.Core.Bool.{Bool, true, false, cond, not}
 use mathlib.Core.List.{List, [], _∷_, _++_}
-use native.Mathlib.Nat.{le-refl}
 use native.Mathlib.Numerals.{add-one}
 use native.Mathlib.Omega.{arith}
-use Prim.Native.Nat.{ℕ, zero, suc, _+_, _-_, _*_, _^_, _≤_, _<_, zero-le}
+use Prim.Native.Nat.{ℕ, suc, _+_, _*_, _^_, _≤_, _<_}
 use lib.ListN.{length, getD, length-append}
 use Rattle.answer.specs.Outcome.{done}
 use Rattle.lists.specs.Places.{those}
@@ -16,15 +15,11 @@ use Rattle.planning.specs.Groups.{groupOf, holds, marked}
 use Rattle.planning.specs.Policy.{Policy}
 use Rattle.planning.specs.Planned.{planned, plannedRows}
 use Rattle.planning.proofs.Laws.{accepted-listed, some-piece, rows-mean}
-use Rattle.print.specs.Lines.{spaced, spacedAll, feed}
-use Rattle.print.proofs.LineLaws.{spaced-append, spaced-few, all-few}
-use Rattle.listing.specs.Listing.{label, peopleLabel, piecesLabel, pieceLabel, missingLabel, holderLabel, hasLabel, firstLine, pieceLine, holderLine, rising, listingBy, listing}
+use Rattle.print.specs.Lines.{spacedAll, feed, label, rising}
+use Rattle.print.proofs.LineLaws.{spaced-append, all-few, label-few, pair-few, rising-same, rising-few}
+use Rattle.listing.specs.Listing.{peopleLabel, piecesLabel, pieceLabel, missingLabel, holderLabel, hasLabel, firstLine, pieceLine, holderLine, listingBy, listing}
 
 -- ---- one number more, one line more
--- index i stands for the number i + 1
-pub here : (i : ℕ) → i + 1 - 1 ≡ i
-here i = omega arith
-
 abbrev pub markedPart : (ℕ → Bool) → ℕ → List ℕ
 markedPart t i = spacedAll (cond (t (i + 1)) ((i + 1) ∷ []) [])
 
@@ -35,29 +30,14 @@ marked-grows t i =
     rw (add-one i) (spaced-append (those t 1 i) (cond (t (1 + i)) ((1 + i) ∷ []) [])
     ∙ ap (λ (n : ℕ). spacedAll (those t 1 i) ++ spacedAll (cond (t n) (n ∷ []) [])) e)
 
-pub rising-grows : (f : ℕ → List ℕ) (i : ℕ) → rising f (i + 1) ≡ rising f i ++ f (i + 1)
-unfolding rising
-rising-grows f i = rw (add-one i)
-
 -- ---- how long it is
 those-short : (t : ℕ → Bool) (w n : ℕ) → n < 10 ^ suc w → length (spacedAll (those t 1 n)) ≤ (w + 2) * length (those t 1 n)
 those-short t w n h =
     all-few w (those t 1 n) (λ i l. omega (arith, in-those t 1 n (getD (those t 1 n) i 0) (at-in 0 (those t 1 n) i l) .1))
 
-label-short : (word more : List ℕ) (w n : ℕ) → n < 10 ^ suc w → length (label word n more) ≤ length word + (w + 2) + length more
-unfolding label
-label-short word more w n h = omega (arith, length-append (word ++ spaced n) more, length-append word (spaced n), spaced-few w n h)
-
 first-short : (n k : ℕ) → n ≤ 8 → k ≤ 70 → length (firstLine n k) ≤ 19
 unfolding firstLine
-first-short n k p q =
-    omega (
-      arith,
-      length-append (label peopleLabel n piecesLabel ++ spaced k) feed,
-      length-append (label peopleLabel n piecesLabel) (spaced k),
-      label-short peopleLabel piecesLabel 0 n (omega arith),
-      spaced-few 1 k (omega arith),
-    )
+first-short n k p q = omega (arith, pair-few peopleLabel piecesLabel 0 n 1 k (omega arith) (omega arith))
 
 piece-short : (t : ℕ → Bool) (n j : ℕ) → n ≤ 8 → j ≤ 70 → length (pieceLine t n j) ≤ 33
 unfolding pieceLine
@@ -66,7 +46,7 @@ piece-short t n j p q =
       arith,
       length-append (label pieceLabel j missingLabel ++ spacedAll (those t 1 n)) feed,
       length-append (label pieceLabel j missingLabel) (spacedAll (those t 1 n)),
-      label-short pieceLabel missingLabel 1 j (omega arith),
+      label-few pieceLabel missingLabel 1 j (omega arith),
       those-short t 0 n (omega arith),
       those-few t 1 n,
     )
@@ -78,16 +58,10 @@ holder-short t k i p q =
       arith,
       length-append (label holderLabel i hasLabel ++ spacedAll (those t 1 k)) feed,
       length-append (label holderLabel i hasLabel) (spacedAll (those t 1 k)),
-      label-short holderLabel hasLabel 0 i (omega arith),
+      label-few holderLabel hasLabel 0 i (omega arith),
       those-short t 1 k (omega arith),
       those-few t 1 k,
     )
-
-rising-short : (f : ℕ → List ℕ) (most n : ℕ) → ((i : ℕ) → i ≤ n → length (f i) ≤ most) → length (rising f n) ≤ most * n
-unfolding rising
-rising-short f most zero h = zero-le
-rising-short f most (suc n) h =
-    omega (arith, length-append (rising f n) (f (suc n)), rising-short f most n (λ i l. h i (omega arith)), h (suc n) (le-refl (suc n)))
 
 -- no listing is longer than 4,113 bytes
 pub listing-short : (lacks has : ℕ → ℕ → Bool) (n k : ℕ) → n ≤ 8 → k ≤ 70 → length (listingBy lacks has n k) ≤ 4113
@@ -100,16 +74,11 @@ listing-short lacks has n k p q =
       length-append (firstLine n k ++ pieces) holders,
       length-append (firstLine n k) pieces,
       first-short n k p q,
-      rising-short (λ j. pieceLine (lacks j) n j) 33 k (λ j l. piece-short (lacks j) n j p (omega arith)),
-      rising-short (λ i. holderLine (has i) k i) 223 n (λ i l. holder-short (has i) k i q (omega arith)),
+      rising-few (λ j. pieceLine (lacks j) n j) 33 k (λ j f l. piece-short (lacks j) n j p (omega arith)),
+      rising-few (λ i. holderLine (has i) k i) 223 n (λ i f l. holder-short (has i) k i q (omega arith)),
     )
 
 -- ---- the same tests give the same listing
-rising-same : (f g : ℕ → List ℕ) (n : ℕ) → ((i : ℕ) → 1 ≤ i → i ≤ n → f i ≡ g i) → rising f n ≡ rising g n
-unfolding rising
-rising-same f g zero h = refl
-rising-same f g (suc n) h = ap₂ _++_ (rising-same f g n (λ i l m. h i l (omega arith))) (h (suc n) (omega arith) (le-refl (suc n)))
-
 same-listing : (lacks has lacks′ has′ : ℕ → ℕ → Bool) (n k : ℕ)
     → ((i j : ℕ) → 1 ≤ i → i ≤ n → 1 ≤ j → j ≤ k → lacks j i ≡ lacks′ j i)
     → ((i j : ℕ) → 1 ≤ i → i ≤ n → 1 ≤ j → j ≤ k → has i j ≡ has′ i j)

@@ -2,18 +2,14 @@
 -- Assumes nothing.
 use mathlib.Core.Bool.{Bool, not}
 use mathlib.Core.List.{List, [], _∷_, _++_}
-use Prim.Native.Nat.{ℕ, zero, suc}
+use Prim.Native.Nat.{ℕ}
 use Rattle.answer.specs.Outcome.{Outcome, done, refused}
 use Rattle.lists.specs.Places.{those}
 use Rattle.planning.specs.Groups.{pieceCount, holds}
 use Rattle.planning.specs.Policy.{Policy}
 use Rattle.planning.specs.Planned.{planned}
-use Rattle.print.specs.Lines.{spaced, spacedAll, feed, refusedLine}
+use Rattle.print.specs.Lines.{spacedAll, feed, label, pairLine, rising, refusedLine}
 use Rattle.policy.specs.Policy.{readPolicy}
-
--- a word, a number, and how the line goes on
-unfoldable pub label : List ℕ → ℕ → List ℕ → List ℕ
-label word n more = word ++ spaced n ++ more
 
 -- `people`
 abbrev pub peopleLabel : List ℕ
@@ -41,7 +37,7 @@ hasLabel = 32 ∷ 104 ∷ 97 ∷ 115 ∷ []
 
 -- the first line: n and k
 unfoldable pub firstLine : ℕ → ℕ → List ℕ
-firstLine n k = label peopleLabel n piecesLabel ++ spaced k ++ feed
+firstLine n k = pairLine peopleLabel n piecesLabel k
 
 -- the line of piece j: those of the n people with the test, who lack it; where there are none, the line feed stands right behind `missing`
 unfoldable pub pieceLine : (ℕ → Bool) → ℕ → ℕ → List ℕ
@@ -50,11 +46,6 @@ pieceLine lacks n j = label pieceLabel j missingLabel ++ spacedAll (those lacks 
 -- the line of holder i: those of the k pieces with the test, which the holder has
 unfoldable pub holderLine : (ℕ → Bool) → ℕ → ℕ → List ℕ
 holderLine has k i = label holderLabel i hasLabel ++ spacedAll (those has 1 k) ++ feed
-
--- the lines of the numbers 1 to n, in this order
-unfoldable pub rising : (ℕ → List ℕ) → ℕ → List ℕ
-rising line zero = []
-rising line (suc n) = rising line n ++ line (suc n)
 
 -- the lines in order, of n people and k pieces; lacks j i: person i lacks piece j; has i j: person i has piece j
 unfoldable pub listingBy : (ℕ → ℕ → Bool) → (ℕ → ℕ → Bool) → ℕ → ℕ → List ℕ

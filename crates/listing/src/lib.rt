@@ -9,18 +9,8 @@ ghost use Rattle.planning.specs.Groups.{marked};
 ghost use Rattle.planning.specs.Policy.{policyOf};
 ghost use Rattle.print.specs.Written.{Prints};
 ghost use Rattle.print.specs.Inner.{Room, Writes};
-ghost use Rattle.print.specs.Lines.{spacedAll};
-ghost use Rattle.listing.specs.Listing.{label, firstLine, pieceLine, holderLine, rising, listingBy, listedPlan, listed};
-
-// Writes a word, a number, and how the line goes on.
-fn write_label(out: &mut [u8], at: usize, word: &[u8], n: usize, more: &[u8]) -> usize
-    requires { ⌜ Room (label (now word) n (now more)) at (now out) ⌝ }
-    ensures { λ r. ⌜ Writes (label (now (word .entry)) n (now (more .entry))) at (now (out .entry)) (now (out .exit)) r ⌝ }
-{
-    let p1 = print::write_bytes(out, at, word);
-    let p2 = print::write_number(out, p1, n);
-    print::write_bytes(out, p2, more)
-}
+ghost use Rattle.print.specs.Lines.{spacedAll, rising};
+ghost use Rattle.listing.specs.Listing.{firstLine, pieceLine, holderLine, listingBy, listedPlan, listed};
 
 // Writes n where it is marked.
 fn write_marked(out: &mut [u8], at: usize, mark: bool, n: usize) -> usize
@@ -70,7 +60,7 @@ fn write_piece(out: &mut [u8], at: usize, j: usize, row: [bool; 8], people: usiz
     ensures { λ r.
         ⌜ Writes (pieceLine (λ i. getD row (i - 1) false) people j) at (now (out .entry)) (now (out .exit)) r ⌝ }
 {
-    let p1 = write_label(out, at, b"piece", j, b" missing");
+    let p1 = print::write_label(out, at, b"piece", j, b" missing");
     let p2 = write_missing(out, p1, row, people);
     print::write_bytes(out, p2, b"\n")
 }
@@ -81,7 +71,7 @@ fn write_holder(out: &mut [u8], at: usize, i: usize, rows: &[[bool; 8]; 70], k: 
     ensures { λ r.
         ⌜ Writes (holderLine (λ j. not (marked (now (rows .entry)) j i)) k i) at (now (out .entry)) (now (out .exit)) r ⌝ }
 {
-    let p1 = write_label(out, at, b"holder", i, b" has");
+    let p1 = print::write_label(out, at, b"holder", i, b" has");
     let held = write_held(out, p1, rows, k, i);
     print::write_bytes(out, held, b"\n")
 }
@@ -131,9 +121,7 @@ fn write_first(out: &mut [u8], people: usize, k: usize) -> usize
     requires { ⌜ Room (firstLine people k) 0 (now out) ⌝ }
     ensures { λ r. ⌜ Writes (firstLine people k) 0 (now (out .entry)) (now (out .exit)) r ⌝ }
 {
-    let p1 = write_label(out, 0, b"people", people, b" pieces");
-    let p2 = print::write_number(out, p1, k);
-    print::write_bytes(out, p2, b"\n")
+    print::write_pair(out, 0, b"people", people, b" pieces", k)
 }
 
 // Writes the listing of a table of rows.

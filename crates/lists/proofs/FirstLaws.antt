@@ -197,6 +197,12 @@ has-from t (suc n) i h = go (t i) refl h (has-from t n (i + 1))
 pub has-test : (t : ℕ → Bool) (i e : ℕ) → firstIn t i e ≢ 0 → (t (firstIn t i e) ≡ true) × (i ≤ firstIn t i e)
 has-test t i e h = has-from t (e - i) i h
 
+-- and before the end
+pub below-in : (t : ℕ → Bool) (i e : ℕ) → firstIn t i e ≢ 0 → firstIn t i e < e
+below-in t i e h =
+    let some : firstIn t i e ≡ 0 → ⊥ = h in
+    omega (arith, has-test t i e h .1, below-from t (e - i) i)
+
 -- ---- the first place in a list, as a loop over indices from 0 looks for it: at index i, place i + 1 is next
 module _ (test : ℕ → Bool) (l : List ℕ) where
   abbrev pub ahead : ℕ → ℕ

@@ -1,9 +1,9 @@
 -- A list that is written over the front of another, number by number.
 -- Assumes nothing.
-use mathlib.Core.Path.{_≡_, refl, sym, _∙_}
-use mathlib.Core.List.{List, [], _∷_, _++_}
+use mathlib.Core.Path.{_≡_, refl, sym, ap, _∙_}
+use mathlib.Core.List.{List, [], _∷_, _++_, append-assoc}
 use native.Mathlib.Omega.{arith}
-use Prim.Native.Nat.{ℕ, suc, _<_}
+use Prim.Native.Nat.{ℕ, suc, _+_, _<_}
 use lib.ListN.{length, getD, set, drop, length-append}
 use lib.Seq.{drop-cons, set-at, append-snoc}
 use Rattle.lists.specs.Over.{over}
@@ -15,3 +15,11 @@ over-more new old v h =
     let s : length (new ++ v ∷ []) ≡ suc (length new) = omega (arith, length-append new (v ∷ [])) in
     let rest = drop (suc (length new)) old in
     rw (s, drop-cons old (length new) 0 h) (set-at new (getD old (length new) 0) rest v (length new) refl ∙ sym (append-snoc new v rest))
+
+-- two more
+pub over-two : (new old : List ℕ) (x y n : ℕ) → n ≡ length new → n + 1 < length old → set (set (over new old) n x) (n + 1) y ≡ over (new ++ x ∷ y ∷ []) old
+over-two new old x y n e h =
+    let m : length (new ++ x ∷ []) ≡ n + 1 = omega (arith, length-append new (x ∷ [])) in
+    ap (λ (l : List ℕ). set l (n + 1) y) (ap (λ (z : ℕ). set (over new old) z x) e ∙ over-more new old x (omega arith))
+    ∙ ap (λ (z : ℕ). set (over (new ++ x ∷ []) old) z y) (sym m) ∙ over-more (new ++ x ∷ []) old y (omega arith)
+    ∙ ap (λ (l : List ℕ). over l old) (append-assoc new (x ∷ []) (y ∷ []))

@@ -1,9 +1,9 @@
--- The numbers with a test, in rising order: one turn, which numbers they are, that they rise, and how many they are.
+-- The numbers with a test, in rising order: one turn, which numbers they are, that they rise, and how many they are; where none or one has it.
 -- Assumes nothing.
 use mathlib.Core.Path.{_≡_, refl, sym, ap, ap₂, _∙_}
 use mathlib.Core.Bool.{Bool, true, false, cond, false≢true}
-use mathlib.Core.Logic.{⊎-elim}
-use mathlib.Core.List.{List, [], _∷_, _++_, append-nil, List·Memᴰ, List·Memᴰ·head, List·Memᴰ·tail, List·Memᴰ·not-nil, List·Memᴰ·cases-cons, List·Memᴰ·append-cases, List·Memᴰ·eq-of-singleton, Memᴰ·append-left, Memᴰ·append-right}
+use mathlib.Core.Logic.{⊎-elim, _≢_}
+use mathlib.Core.List.{List, [], _∷_, _++_, append-nil, append-assoc, List·Memᴰ, List·Memᴰ·head, List·Memᴰ·tail, List·Memᴰ·not-nil, List·Memᴰ·cases-cons, List·Memᴰ·append-cases, List·Memᴰ·eq-of-singleton, Memᴰ·append-left, Memᴰ·append-right}
 use Prim.Native.Nat.{ℕ, zero, suc, _+_, _≤_, _<_, suc-le-suc, zero-le}
 use native.Mathlib.Nat.{le-refl, le-of-eq, eq-or-lt-of-le, not-suc-le-zero, le-of-suc-le-suc}
 use native.Mathlib.Numerals.{add-one}
@@ -137,6 +137,33 @@ those-apart f g i (suc n) h =
     one true false k = le-refl 1
     one false true k = le-refl 1
     one false false k = zero-le
+
+-- ---- where none has the test, where one has it, and in two parts
+pub those-none : (t : ℕ → Bool) (i n : ℕ) → ((s : ℕ) → i ≤ s → s < i + n → t s ≡ false) → those t i n ≡ []
+unfolding those
+those-none t i zero h = refl
+those-none t i (suc n) h = rw (those-none t i n (λ s l m. h s l (omega arith)), h (i + n) (omega arith) (omega arith))
+
+pub those-one : (t : ℕ → Bool) (i n f : ℕ) → i ≤ f → f < i + n → t f ≡ true → ((s : ℕ) → i ≤ s → s < i + n → s ≢ f → t s ≡ false)
+    → those t i n ≡ f ∷ []
+unfolding those
+those-one t i zero f l m y h = absurd (omega arith)
+those-one t i (suc n) f l m y h =
+    ⊎-elim
+    (λ (e : f ≡ i + n).
+    rw (those-none t i n (λ s u v. h s u (omega arith) (λ q. omega arith)), ← e, y))
+    (λ (less : f < i + n).
+    rw (h (i + n) (omega arith) (omega arith) (λ q. omega arith))
+    (append-nil (those t i n) ∙ those-one t i n f l less y (λ s u v ne. h s u (omega arith) ne)))
+    (eq-or-lt-of-le (omega arith))
+
+pub those-split : (t : ℕ → Bool) (i m n : ℕ) → those t i (m + n) ≡ those t i m ++ those t (i + m) n
+unfolding those
+those-split t i m zero = let e : m + 0 ≡ m = omega arith in rw e (sym (append-nil (those t i m)))
+those-split t i m (suc n) =
+    let e : m + suc n ≡ suc (m + n) = omega arith in
+    let f : i + m + n ≡ i + (m + n) = omega arith in
+    rw (e, f, those-split t i m n) (append-assoc (those t i m) (those t (i + m) n) (cond (t (i + (m + n))) ((i + (m + n)) ∷ []) []))
 
 -- ---- they rise
 pub record Rises (l : List ℕ) : Type 0 where

@@ -1,8 +1,11 @@
--- Tests that hold and tests that fail: `and`, `or`, `not`.
+-- Tests that hold and tests that fail: `and`, `or`, `not`; two numbers are the same, or not.
 -- Assumes nothing.
 use mathlib.Core.Path.{_≡_, refl, sym, ap, _∙_}
 use mathlib.Core.Bool.{Bool, true, false, not, _&&_, _||_, false≢true}
-use mathlib.Core.Logic.{_⊎_, inl, inr, ⊎-elim}
+use mathlib.Core.Logic.{_⊎_, inl, inr, ⊎-elim, _≢_}
+use Prim.Native.Nat.{ℕ}
+use lib.Dec.{eqb}
+use borrow.Author.Tests.{eqb-true, eqb-false}
 
 pub never : {b : Bool} → b ≡ false → b ≡ true → ⊥
 never e t = false≢true (sym e ∙ t)
@@ -10,6 +13,10 @@ never e t = false≢true (sym e ∙ t)
 pub decided : (b : Bool) → (b ≡ true) ⊎ (b ≡ false)
 decided true = inl refl
 decided false = inr refl
+
+-- two numbers are the same, or not
+pub same-or-not : (k i : ℕ) → (k ≡ i) ⊎ (k ≢ i)
+same-or-not k i = ⊎-elim (λ t. inl (eqb-true k i t)) (λ f. inr (eqb-false k i f)) (decided (eqb k i))
 
 pub isn't : {b : Bool} → (b ≡ true → ⊥) → b ≡ false
 isn't {b} h = ⊎-elim (λ (t : b ≡ true). absurd (h t)) (λ (e : b ≡ false). e) (decided b)

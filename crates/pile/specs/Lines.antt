@@ -18,6 +18,10 @@ tornPile pile = line Torn (found (length pile % 512)) 0 0
 abbrev pub longPile : List ℕ → Line
 longPile pile = line Long (ltb 560 (blocks pile)) 0 0
 
+-- 14 LONG, of the programs that read a pile: more than 65,536 bytes
+abbrev pub tooLong : List ℕ → Line
+tooLong pile = line Long (ltb 65536 (length pile)) 0 0
+
 -- 15, 16, 17 of the n blocks from block a on
 unfoldable pub linesFrom : List ℕ → ℕ → ℕ → List Line
 linesFrom pile a zero = []

@@ -1,16 +1,18 @@
--- Numbers with a space before each, and how long the lines are.
+-- Numbers with a space before each, lines one after another, and how long they are.
 -- Assumes nothing.
-use mathlib.Core.Path.{_≡_, refl, sym, ap, subst, _∙_}
+use mathlib.Core.Path.{_≡_, refl, sym, ap, ap₂, subst, _∙_}
 use mathlib.Core.List.{List, [], _∷_, _++_, append-assoc, append-nil}
+use native.Mathlib.Nat.{le-refl}
+use native.Mathlib.Numerals.{add-one}
 use native.Mathlib.Omega.{arith}
-use Prim.Native.Nat.{ℕ, suc, _+_, _*_, _^_, _≤_, _<_, suc-le-suc, zero-le}
+use Prim.Native.Nat.{ℕ, zero, suc, _+_, _-_, _*_, _^_, _≤_, _<_, suc-le-suc, zero-le}
 use lib.ListN.{length, take, drop, getD, length-append, take-append-drop}
 use lib.Seq.{take-suc}
 use Rattle.answer.specs.declared.Kind.{Kind}
 use Rattle.answer.specs.declared.Kind.the-variants as kind
 use Rattle.answer.specs.Outcome.{number}
 use Rattle.print.specs.Inner.{Room, Writes}
-use Rattle.print.specs.Lines.{spaced, spacedAll, feed, refusedWord, secretWord, refusedLine, secretLine}
+use Rattle.print.specs.Lines.{spaced, spacedAll, feed, label, pairLine, rising, refusedWord, secretWord, refusedLine, secretLine}
 use Rattle.print.proofs.DecimalLaws.{few}
 use Rattle.print.proofs.WrittenLaws.{_then_, room-first, room-next, retold}
 
@@ -46,6 +48,20 @@ module _ (ns : List ℕ) (i : ℕ) (h : i < length ns) where
     pub words-turn : {now : List ℕ} {q : ℕ} → Writes (spaced (getD ns i 0)) p mid now q → Writes (spacedAll (take (i + 1) ns)) at old now q
     words-turn v = retold (sym one-more) (_then_ w v (room-so-far r))
 
+-- ---- lines one after another
+-- index i stands for the number i + 1
+pub here : (i : ℕ) → i + 1 - 1 ≡ i
+here i = omega arith
+
+pub rising-grows : (f : ℕ → List ℕ) (i : ℕ) → rising f (i + 1) ≡ rising f i ++ f (i + 1)
+unfolding rising
+rising-grows f i = rw (add-one i)
+
+pub rising-same : (f g : ℕ → List ℕ) (n : ℕ) → ((i : ℕ) → 1 ≤ i → i ≤ n → f i ≡ g i) → rising f n ≡ rising g n
+unfolding rising
+rising-same f g zero h = refl
+rising-same f g (suc n) h = ap₂ _++_ (rising-same f g n (λ i l m. h i l (omega arith))) (h (suc n) (omega arith) (le-refl (suc n)))
+
 -- ---- how long they are
 pub spaced-few : (k n : ℕ) → n < 10 ^ suc k → length (spaced n) ≤ k + 2
 unfolding spaced
@@ -57,6 +73,28 @@ unfolding spacedAll
 all-few k [] h = zero-le
 all-few k (n ∷ ns) h =
     omega (arith, length-append (spaced n) (spacedAll ns), spaced-few k n (h 0 (suc-le-suc zero-le)), all-few k ns (λ i l. h (suc i) (suc-le-suc l)))
+
+pub label-few : (word more : List ℕ) (w n : ℕ) → n < 10 ^ suc w → length (label word n more) ≤ length word + (w + 2) + length more
+unfolding label
+label-few word more w n h = omega (arith, length-append (word ++ spaced n) more, length-append word (spaced n), spaced-few w n h)
+
+pub pair-few : (word more : List ℕ) (v n w m : ℕ) → n < 10 ^ suc v → m < 10 ^ suc w
+    → length (pairLine word n more m) ≤ length word + (v + 2) + length more + (w + 3)
+unfolding pairLine
+pair-few word more v n w m h k =
+    omega (
+      arith,
+      length-append (label word n more ++ spaced m) feed,
+      length-append (label word n more) (spaced m),
+      label-few word more v n h,
+      spaced-few w m k,
+    )
+
+pub rising-few : (f : ℕ → List ℕ) (most n : ℕ) → ((i : ℕ) → 1 ≤ i → i ≤ n → length (f i) ≤ most) → length (rising f n) ≤ most * n
+unfolding rising
+rising-few f most zero h = zero-le
+rising-few f most (suc n) h =
+    omega (arith, length-append (rising f n) (f (suc n)), rising-few f most n (λ i l m. h i l (omega arith)), h (suc n) (omega arith) (le-refl (suc n)))
 
 number-few : (k : Kind) → number k < 10 ^ 20
 number-few kind.People = omega arith

@@ -1,7 +1,8 @@
--- The lines of a secret and of a refusal, which the programs print (SCOPE 7): a word, and numbers in decimal with one space before each.
+-- What the lines of the programs are made of (SCOPE 7): words, and numbers in decimal with one space before each; the lines of a secret and of a
+-- refusal.
 -- Assumes nothing.
 use mathlib.Core.List.{List, [], _∷_, _++_}
-use Prim.Native.Nat.{ℕ}
+use Prim.Native.Nat.{ℕ, zero, suc}
 use Rattle.print.specs.Decimal.{decimal}
 
 -- a number in decimal, one space in front of it
@@ -16,6 +17,19 @@ spacedAll (n ∷ ns) = spaced n ++ spacedAll ns
 -- what ends every line (SCOPE 7)
 abbrev pub feed : List ℕ
 feed = 10 ∷ []
+
+-- a word, a number, and how the line goes on
+unfoldable pub label : List ℕ → ℕ → List ℕ → List ℕ
+label word n more = word ++ spaced n ++ more
+
+-- a line of two words, each with its number
+unfoldable pub pairLine : List ℕ → ℕ → List ℕ → ℕ → List ℕ
+pairLine word n more m = label word n more ++ spaced m ++ feed
+
+-- the lines of the numbers 1 to n, in this order
+unfoldable pub rising : (ℕ → List ℕ) → ℕ → List ℕ
+rising line zero = []
+rising line (suc n) = rising line n ++ line (suc n)
 
 -- `refused`
 abbrev pub refusedWord : List ℕ

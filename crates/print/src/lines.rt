@@ -1,9 +1,9 @@
-// The refusal line and the secret line, written into a lent buffer.
+// Words and numbers, the refusal line and the secret line, written into a lent buffer.
 ghost use lib.ListN.{take};
 ghost use Rattle.answer.specs.Outcome.{number};
 ghost use Rattle.print.specs.Written.{Prints};
 ghost use Rattle.print.specs.Inner.{Room, Writes};
-ghost use Rattle.print.specs.Lines.{spaced, spacedAll, refusedLine, secretLine};
+ghost use Rattle.print.specs.Lines.{spaced, spacedAll, label, pairLine, refusedLine, secretLine};
 
 // Writes the bytes of word from at on, and answers the index behind them.
 pub fn write_bytes(out: &mut [u8], at: usize, word: &[u8]) -> usize
@@ -39,6 +39,27 @@ pub fn write_words(out: &mut [u8], at: usize, words: &[u16]) -> usize
         i += 1;
     }
     p
+}
+
+// Writes a word, a number, and how the line goes on.
+pub fn write_label(out: &mut [u8], at: usize, word: &[u8], n: usize, more: &[u8]) -> usize
+    requires { ⌜ Room (label (now word) n (now more)) at (now out) ⌝ }
+    ensures { λ r. ⌜ Writes (label (now (word .entry)) n (now (more .entry))) at (now (out .entry)) (now (out .exit)) r ⌝ }
+{
+    let p1 = write_bytes(out, at, word);
+    let p2 = write_number(out, p1, n);
+    write_bytes(out, p2, more)
+}
+
+// Writes a line of two words, each with its number.
+pub fn write_pair(out: &mut [u8], at: usize, word: &[u8], n: usize, more: &[u8], m: usize) -> usize
+    requires { ⌜ Room (pairLine (now word) n (now more) m) at (now out) ⌝ }
+    ensures { λ r.
+        ⌜ Writes (pairLine (now (word .entry)) n (now (more .entry)) m) at (now (out .entry)) (now (out .exit)) r ⌝ }
+{
+    let p1 = write_label(out, at, word, n, more);
+    let p2 = write_number(out, p1, m);
+    write_bytes(out, p2, b"\n")
 }
 
 // Writes the line of a refusal, and answers its length.

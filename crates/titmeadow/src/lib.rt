@@ -15,6 +15,7 @@ ghost use Rattle.block.specs.Open.{opening, wordsOf};
 ghost use Rattle.dealing.specs.Deal.{dealFrom};
 ghost use Rattle.dealing.specs.Dealt.{dealing, dealtInto};
 ghost use Rattle.joining.specs.Joined.{joining, joinedInto};
+ghost use Rattle.salvage.specs.Pile.{salvaging, salvagedPile, salvagedList};
 ghost use Rattle.packing.specs.Key.{packing, unpacking, unpackedInto};
 ghost use Rattle.key.specs.Dealt.{keyDeal};
 ghost use Rattle.key.specs.Joined.{joiningKey, joinedKeyInto};
@@ -176,6 +177,16 @@ pub extern "C" fn titmeadow_open(pile: &[u8], head: &mut [u16; 7]) -> Said
         }
         Opened::Refused(r) => said_of(Answer::Refused(r)),
     }
+}
+
+// The lent pile salvaged where it stands, block and word of each word rebuilt into the front of `list`: how many they are.
+#[no_mangle]
+pub extern "C" fn titmeadow_salvage(pile: &mut [u8], list: &mut [u16]) -> Said
+    ensures says { λ r. ⌜ r ≡ said (salvaging (now (pile .entry)) (length (now (list .entry)))) ⌝ }
+    ensures mends { λ r. ⌜ now (pile .exit) ≡ salvagedPile (now (pile .entry)) (length (now (list .entry))) ⌝ }
+    ensures lists { λ r. ⌜ now (list .exit) ≡ salvagedList (now (pile .entry)) (now (list .entry)) ⌝ }
+{
+    said_of(salvage::salvage(pile, list))
 }
 
 // The ten words of a key into the ten places lent; the result is 10.

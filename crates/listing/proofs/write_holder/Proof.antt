@@ -6,9 +6,9 @@ use Prim.Native.Nat.{ℕ}
 use denote.Ref.{now}
 use Rattle.lists.specs.Places.{those}
 use Rattle.planning.specs.Groups.{marked}
-use Rattle.print.specs.Lines.{spacedAll, feed}
+use Rattle.print.specs.Lines.{spacedAll, feed, label}
 use Rattle.print.proofs.WrittenLaws.{room-1, room-2, room-3, three-written}
-use Rattle.listing.specs.Listing.{label, holderLabel, hasLabel, holderLine}
+use Rattle.listing.specs.Listing.{holderLabel, hasLabel, holderLine}
 use borrow.Author.Needs.{needs}
 use Rattle.listing.proofs.write_holder.Statement.{statement}
 use Rattle.listing.proofs.write_holder.Tie as tie

@@ -9,9 +9,10 @@ use denote.Ref.{now}
 use lib.ListN.{length}
 use Rattle.planning.specs.Groups.{marked}
 use Rattle.print.specs.Inner.{Writes}
+use Rattle.print.specs.Lines.{rising}
 use Rattle.print.proofs.WrittenLaws.{nothing, turn-room, turn-written}
-use Rattle.listing.specs.Listing.{holderLine, rising}
-use Rattle.listing.proofs.ListingLaws.{rising-grows}
+use Rattle.listing.specs.Listing.{holderLine}
+use Rattle.print.proofs.LineLaws.{rising-grows}
 use Rattle.listing.proofs.write_holders.Statement.{statement}
 use Rattle.listing.proofs.write_holders.Tie as tie
 

@@ -5,8 +5,9 @@ use mathlib.Core.List.{List}
 use Prim.Native.Nat.{ℕ}
 use denote.Ref.{now}
 use Rattle.planning.specs.Groups.{marked}
+use Rattle.print.specs.Lines.{rising}
 use Rattle.print.proofs.WrittenLaws.{room-1, room-2, room-3, three-written}
-use Rattle.listing.specs.Listing.{firstLine, pieceLine, holderLine, rising, listingBy}
+use Rattle.listing.specs.Listing.{firstLine, pieceLine, holderLine, listingBy}
 use borrow.Author.Needs.{needs}
 use Rattle.listing.proofs.write_listing.Statement.{statement}
 use Rattle.listing.proofs.write_listing.Tie as tie

@@ -10,7 +10,8 @@ use Rattle.lists.specs.Places.{those}
 use Rattle.print.specs.Inner.{Writes}
 use Rattle.print.specs.Lines.{spacedAll}
 use Rattle.print.proofs.WrittenLaws.{nothing, turn-room, turn-written}
-use Rattle.listing.proofs.ListingLaws.{here, markedPart, marked-grows}
+use Rattle.print.proofs.LineLaws.{here}
+use Rattle.listing.proofs.ListingLaws.{markedPart, marked-grows}
 use Rattle.listing.proofs.write_missing.Statement.{statement}
 use Rattle.listing.proofs.write_missing.Tie as tie
 

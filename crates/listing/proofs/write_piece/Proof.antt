@@ -5,9 +5,9 @@ use mathlib.Core.List.{List}
 use Prim.Native.Nat.{ℕ, _-_}
 use lib.ListN.{getD}
 use Rattle.lists.specs.Places.{those}
-use Rattle.print.specs.Lines.{spacedAll, feed}
+use Rattle.print.specs.Lines.{spacedAll, feed, label}
 use Rattle.print.proofs.WrittenLaws.{room-1, room-2, room-3, three-written}
-use Rattle.listing.specs.Listing.{label, pieceLabel, missingLabel, pieceLine}
+use Rattle.listing.specs.Listing.{pieceLabel, missingLabel, pieceLine}
 use borrow.Author.Needs.{needs}
 use Rattle.listing.proofs.write_piece.Statement.{statement}
 use Rattle.listing.proofs.write_piece.Tie as tie

@@ -9,9 +9,10 @@ use denote.Ref.{now}
 use lib.ListN.{length, getD}
 use Rattle.planning.specs.Groups.{marked}
 use Rattle.print.specs.Inner.{Room, Writes}
+use Rattle.print.specs.Lines.{rising}
 use Rattle.print.proofs.WrittenLaws.{nothing, turn-room, turn-written}
-use Rattle.listing.specs.Listing.{pieceLine, rising}
-use Rattle.listing.proofs.ListingLaws.{here, rising-grows}
+use Rattle.listing.specs.Listing.{pieceLine}
+use Rattle.print.proofs.LineLaws.{here, rising-grows}
 use Rattle.listing.proofs.write_pieces.Statement.{statement}
 use Rattle.listing.proofs.write_pieces.Tie as tie
 

@@ -1,12 +1,11 @@
--- `listing::write_label` meets its contract: the word, the number, how the line goes on.
+-- `print::lines::write_label` meets its contract: the word, the number, how the line goes on.
 -- Assumes nothing.
 use denote.Ref.{now}
-use Rattle.print.specs.Lines.{spaced}
+use Rattle.print.specs.Lines.{spaced, label}
 use Rattle.print.proofs.WrittenLaws.{room-1, room-2, room-3, three-written}
-use Rattle.listing.specs.Listing.{label}
 use borrow.Author.Needs.{needs}
-use Rattle.listing.proofs.write_label.Statement.{statement}
-use Rattle.listing.proofs.write_label.Tie as tie
+use Rattle.print.proofs.lines.write_label.Statement.{statement}
+use Rattle.print.proofs.lines.write_label.Tie as tie
 
 write-bytes-requires : tie.Need-write-bytes-requires
 unfolding label

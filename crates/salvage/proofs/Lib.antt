@@ -1,0 +1,13 @@
+pub mod DirtyLaws
+pub mod ValueLaws
+pub mod SumLoop
+pub mod MendLaws
+pub mod PartLaws
+pub mod PileLaws
+pub mod LoopLaws
+pub mod PlaceLaws
+pub mod TwiceLaws
+pub mod BackLaws
+pub mod SayLaws
+pub mod Laws
+pub mod Cases

@@ -1,0 +1,4 @@
+pub mod Mended
+pub mod Pile
+pub mod Inner
+pub mod Laws
