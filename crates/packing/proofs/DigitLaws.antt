@@ -15,6 +15,10 @@ pub data Below (base : ℕ) : List ℕ → Type 0 where
   none : Below base []
   one : {d : ℕ} {ds : List ℕ} → d < base → Below base ds → Below base (d ∷ ds)
 
+pub below-rest : (base : ℕ) {l : List ℕ} → Below base l → Below base (drop 1 l)
+below-rest base none = none
+below-rest base (one h hs) = hs
+
 one-more : (base m c d : ℕ) → d < base → digits base (suc m) (c * base + d) ≡ digits base m c ++ d ∷ []
 unfolding digits
 one-more base m c d h = rw (digits-div c h, digits-mod c h)

@@ -1,9 +1,15 @@
-// A key of sixteen bytes as ten words of 13 bits, and back. Both are one number, the highest digit first (specs/Digits.antt).
-// Each word is cut from three bytes that lie side by side, each byte from two words.
+// A key of sixteen bytes as ten words of 13 bits, and back. Both are one number, the highest digit first (specs/Digits.antt): it is made from the
+// digits of the one and cut into those of the other (number.rt).
+mod number;
+
 use answer::Answer;
 use answer::Kind;
+use number::number_of_bytes;
+use number::number_of_words;
+use number::sixteen_bytes;
+use number::ten_words;
 ghost use mathlib.Core.Path.{_≡_};
-ghost use Prim.Native.Nat.{_+_, _*_, _/_, _%_, _≤_};
+ghost use Prim.Native.Nat.{_≤_};
 ghost use lib.ListN.{length};
 ghost use Rattle.answer.specs.Outcome.{outcome};
 ghost use Rattle.lists.specs.Over.{over};
@@ -15,31 +21,12 @@ pub struct Packed {
     pub words: [u16; 10],
 }
 
-// The 13 bits of three bytes that stand above the digits below `low`.
-fn word_cut(a: u8, b: u8, c: u8, low: u32) -> u16
-    requires { ⌜ 1 ≤ low ⌝ }
-    ensures { λ r. ⌜ r ≡ (a * 65536 + b * 256 + c) / low % 8192 ⌝ }
-{
-    let all = (a as u32) * 65536 + (b as u32) * 256 + (c as u32);
-    ((all / low) % 8192) as u16
-}
-
-// The ten words of a key.
+// The ten words of a key: those of its number.
 fn words_of(key: &[u8]) -> [u16; 10]
     requires { ⌜ length (now key) ≡ 16 ⌝ }
     ensures { λ r. ⌜ r ≡ packed (now (key .entry)) ⌝ }
 {
-    let w1 = word_cut(0, key[0], key[1], 32);
-    let w2 = word_cut(key[0], key[1], key[2], 1);
-    let w3 = word_cut(key[2], key[3], key[4], 8);
-    let w4 = word_cut(key[4], key[5], key[6], 64);
-    let w5 = word_cut(key[5], key[6], key[7], 2);
-    let w6 = word_cut(key[7], key[8], key[9], 16);
-    let w7 = word_cut(key[9], key[10], key[11], 128);
-    let w8 = word_cut(key[10], key[11], key[12], 4);
-    let w9 = word_cut(key[12], key[13], key[14], 32);
-    let w10 = word_cut(key[13], key[14], key[15], 1);
-    [w1, w2, w3, w4, w5, w6, w7, w8, w9, w10]
+    ten_words(number_of_bytes(key))
 }
 
 // Packs a key.
@@ -86,54 +73,12 @@ fn first_wrong(words: &[u16]) -> usize
     0
 }
 
-// The 8 bits of two words that stand above the digits below `low`.
-fn byte_cut(a: u16, b: u16, low: u32) -> u8
-    requires { ⌜ 1 ≤ low ⌝ }
-    ensures { λ r. ⌜ r ≡ (a * 8192 + b) / low % 256 ⌝ }
-{
-    let both = (a as u32) * 8192 + (b as u32);
-    ((both / low) % 256) as u8
-}
-
-// The sixteen bytes of a key's words.
+// The sixteen bytes of a key's words: those of their number.
 fn bytes_of(words: &[u16]) -> [u8; 16]
     requires { ⌜ KeyWords (now words) ⌝ }
     ensures { λ r. ⌜ r ≡ unpacked (now (words .entry)) ⌝ }
 {
-    let b1 = byte_cut(0, words[0], 8);
-    let b2 = byte_cut(words[0], words[1], 256);
-    let b3 = byte_cut(words[0], words[1], 1);
-    let b4 = byte_cut(words[1], words[2], 32);
-    let b5 = byte_cut(words[2], words[3], 1024);
-    let b6 = byte_cut(words[2], words[3], 4);
-    let b7 = byte_cut(words[3], words[4], 128);
-    let b8 = byte_cut(words[4], words[5], 4096);
-    let b9 = byte_cut(words[4], words[5], 16);
-    let b10 = byte_cut(words[5], words[6], 512);
-    let b11 = byte_cut(words[5], words[6], 2);
-    let b12 = byte_cut(words[6], words[7], 64);
-    let b13 = byte_cut(words[7], words[8], 2048);
-    let b14 = byte_cut(words[7], words[8], 8);
-    let b15 = byte_cut(words[8], words[9], 256);
-    let b16 = byte_cut(words[8], words[9], 1);
-    [
-        b1,
-        b2,
-        b3,
-        b4,
-        b5,
-        b6,
-        b7,
-        b8,
-        b9,
-        b10,
-        b11,
-        b12,
-        b13,
-        b14,
-        b15,
-        b16,
-    ]
+    sixteen_bytes(number_of_words(words))
 }
 
 // Writes sixteen bytes over the front of out; the rest stays.
