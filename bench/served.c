@@ -59,6 +59,8 @@ static titmeadow_answer answer(uint64_t call, const uint64_t *n, const struct li
         return titmeadow_join_by_differences(l[0].at, l[0].size, out.at, out.size / 2);
     case 10: /* the list, of n[0] numbers, and the pile behind it */
         return titmeadow_salvage((uint8_t *)out.at + 2 * n[0], out.size - 2 * n[0], out.at, n[0]);
+    case 11:
+        return titmeadow_add(l[0].at, l[0].size, l[1].at, l[1].size, n[0], out.at, out.size);
     }
     return answer_key(call, n, l, out);
 }

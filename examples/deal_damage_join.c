@@ -1,26 +1,48 @@
 /* Deals to four custodians, damages a card and joins: what the unit does with a good pile, a short one, a dirty one and a torn one. Salvages the
- * dirty one. Then splits a key among the four and restores it.
+ * dirty one, and renews the cards. Then splits a key among the four and restores it.
  *   rt staticlib titmeadow && cc -I include examples/deal_damage_join.c target/staticlib/libtitmeadow.a -o target/example && target/example
- * It prints its twelve answers and ends with status 0 where they are those that SCOPE gives. */
+ * It prints its sixteen answers and ends with status 0 where they are those that SCOPE gives. */
 #include <stdio.h>
 #include <string.h>
 #include "titmeadow.h"
 
 static const uint16_t required[] = {1 + 2, 2 + 4, 4 + 8};
 static const uint16_t forbidden[] = {1 + 8};
-static const uint16_t secret[] = {1234};
-static const uint16_t randomness[] = {5, 7};
+
+/* A deal by that policy, of one word. */
+struct deal {
+    size_t number;
+    uint16_t secret[1], randomness[2];
+};
+static const struct deal first_deal = {7, {1234}, {5, 7}};
+/* A deal of zeros, which renews the cards. A unit draws its randomness even, and shows its cards to nobody; this one is for show. */
+static const struct deal zero_deal = {8, {0}, {32748, 1}};
 
 /* The cards of two holders, one after the other; how many bytes they have. */
-static size_t cards(size_t first, size_t second, uint8_t *pile, size_t room) {
+static size_t cards_of(const struct deal *deal, size_t first, size_t second, uint8_t *pile, size_t room) {
     size_t length = 0;
     const size_t holders[] = {first, second};
     for (int i = 0; i < 2; i++) {
-        titmeadow_answer dealt = titmeadow_deal(4, required, 3, forbidden, 1, 7, holders[i], secret, 1, randomness, 2, pile + length, room - length);
+        titmeadow_answer dealt = titmeadow_deal(4, required, 3, forbidden, 1, deal->number, holders[i], deal->secret, 1, deal->randomness, 2,
+                                                pile + length, room - length);
         if (dealt.number != 0)
             return 0;
         length += TITMEADOW_BLOCK_BYTES * dealt.a;
     }
+    return length;
+}
+
+static size_t cards(size_t first, size_t second, uint8_t *pile, size_t room) { return cards_of(&first_deal, first, second, pile, room); }
+
+/* The cards of two holders renewed: each block added to its fellow of the deal of zeros, under a new number; how many bytes they have. */
+static size_t renewed(size_t first, size_t second, size_t number, uint8_t *pile, size_t room) {
+    static uint8_t old[4 * TITMEADOW_BLOCK_BYTES], zeros[sizeof old];
+    const size_t length = cards(first, second, old, sizeof old);
+    if (length == 0 || length > room || cards_of(&zero_deal, first, second, zeros, sizeof zeros) != length)
+        return 0;
+    for (size_t at = 0; at < length; at += TITMEADOW_BLOCK_BYTES)
+        if (titmeadow_add(old + at, TITMEADOW_BLOCK_BYTES, zeros + at, TITMEADOW_BLOCK_BYTES, number, pile + at, room - at).number != 0)
+            return 0;
     return length;
 }
 
@@ -68,6 +90,17 @@ int main(void) {
     good &= is("it is salvaged", titmeadow_salvage(pile, length, list, 2 * 4), 0, 1, 0) && list[0] == 2 && list[1] == 8;
     joined[0] = 0;
     good &= is("and joined", titmeadow_join(pile, length, joined, TITMEADOW_SECRET_MOST), 0, 1, 0) && joined[0] == 1234;
+
+    joined[0] = 0;
+    length = renewed(1, 2, 9, pile, sizeof pile);
+    good &= is("new cards of 1 and 2", titmeadow_join(pile, length, joined, TITMEADOW_SECRET_MOST), 0, 1, 0) && joined[0] == 1234;
+    length = renewed(1, 4, 9, pile, sizeof pile);
+    good &= is("new cards of 1 and 4", titmeadow_join(pile, length, joined, TITMEADOW_SECRET_MOST), TITMEADOW_SHORT, 2, 3);
+    length = renewed(1, 2, 9, pile, sizeof pile);
+    cards(1, 2, pile, TITMEADOW_BLOCK_BYTES); /* holder 1's old card over the new one; for 2's there is no room */
+    good &= is("an old one and a new one", titmeadow_join(pile, length, joined, TITMEADOW_SECRET_MOST), TITMEADOW_MIXED, 1, 0);
+    good &= is("the old number again", titmeadow_add(pile, TITMEADOW_BLOCK_BYTES, pile, TITMEADOW_BLOCK_BYTES, 7, pile + length,
+                                                     sizeof pile - length), TITMEADOW_DEAL, 0, 0);
 
     const uint8_t key[] = "fifteen letters"; /* and the zero behind them */
     uint8_t restored[TITMEADOW_KEY_BYTES] = {0};

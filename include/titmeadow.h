@@ -1,4 +1,4 @@
-/* Titmeadow: planning, dealing and joining for the vault unit. Link target/staticlib/libtitmeadow.a (rt staticlib titmeadow).
+/* Titmeadow: planning, dealing, joining and renewing cards for the vault unit. Link target/staticlib/libtitmeadow.a (rt staticlib titmeadow).
  *
  * Whatever a call is given, it ends in its result or in a refusal, which has a number and the places a and b. A place is counted from
  * 1, and 0 where none is named. After a refusal, all that was lent is as before; a result writes only what is said here.
@@ -55,12 +55,12 @@ enum titmeadow_refusal {
     TITMEADOW_OPEN = 5,      /* the empty set is required; a: its first place */
     TITMEADOW_CLASH = 6,     /* a required set lies inside a forbidden one; a: the first such set, b: the first forbidden set around it */
     TITMEADOW_WIDE = 7,      /* there are over 70 maximal groups, which 8 people never have */
-    TITMEADOW_DEAL = 8,      /* the deal number is 0 or exceeds 32748 */
+    TITMEADOW_DEAL = 8,      /* the deal number is 0 or exceeds 32748, or is that of one of the blocks that are added */
     TITMEADOW_HOLDER = 9,    /* the holder is 0 or exceeds the number of people */
     TITMEADOW_SECRET = 10,   /* no words, or more than 16, or a key not of 16 bytes (a = 0); else some word exceeds 32748; a: the first such word */
     TITMEADOW_RANDOM = 11,   /* not w(k - 1) words (a = 0); else some word exceeds 32748; a: the first such word */
     TITMEADOW_ROOM = 12,     /* the lent buffer is too short; a: the blocks or words of the result, of a key its 16 bytes, and in salvaging the blocks of the pile */
-    TITMEADOW_TORN = 13,     /* bytes are left over after the whole blocks */
+    TITMEADOW_TORN = 13,     /* bytes are left over after the whole blocks; a block that is added has not 512 bytes */
     TITMEADOW_LONG = 14,     /* there are more than 560 blocks */
     TITMEADOW_UNREAD = 15,   /* some word of a block exceeds 32748; a: the block, b: the first such word */
     TITMEADOW_CHECK = 16,    /* word 256 of a block is not its check; a: the block */
@@ -70,7 +70,8 @@ enum titmeadow_refusal {
     TITMEADOW_SHORT = 20,    /* of the pieces 1 to k not all are there; a: how many different ones are, b: k */
     TITMEADOW_TEXT = 21,     /* the text of a policy cannot be read (the listing program only); a: the first bad line */
     TITMEADOW_LONE = 22,     /* a required set has a single member; a: the first such set */
-    TITMEADOW_NOTKEY = 23    /* there are not ten words (a = 0); else the first exceeds 2047 or another 8191; a: the first such word */
+    TITMEADOW_NOTKEY = 23,   /* there are not ten words (a = 0); else the first exceeds 2047 or another 8191; a: the first such word */
+    TITMEADOW_UNLIKE = 24    /* the two blocks of an addition differ in one of words 3 to 7; a: the first such word */
 };
 
 /* Planning: the result is k, the number of pieces. A set is a number in which the bit of person i is 2^(i-1).
@@ -134,6 +135,16 @@ titmeadow_answer titmeadow_deal_key(size_t people, const uint16_t *required, siz
  * are written to the front of key. room counts bytes. Refuses 13, 14; for one block after the other 15, 16, 17; then 18, 19, 20; 23, for
  * words that are no key's; last 12 (a = 16). */
 titmeadow_answer titmeadow_join_key(const uint8_t *pile, size_t length, uint8_t *key, size_t room);
+
+/* Adding two blocks into one, under a new deal number: the blocks are alike in words 3 to 7 (holder, people, k, w, piece), and so is the
+ * sum; its values are theirs added one by one mod 32749. The result is 1, a number of blocks, and the sum is written to the first 512
+ * bytes of block. room counts bytes. The two may be of one deal, and may be the same block.
+ * Adding, block for block and all under one new number, the cards of a deal of the same policy whose secret is w zeros renews the cards
+ * of a deal: the new cards join to the same secret, and with a card of either old deal they do not join.
+ * Refuses, of block one and then of block two, 13 (not 512 bytes, fewer or more; a = 0) and 15, 16, 17 (a: 1 or 2); then 24; 8 (also where
+ * deal is the number of one of the blocks); 12 (a = 1). */
+titmeadow_answer titmeadow_add(const uint8_t *one, size_t one_length, const uint8_t *two, size_t two_length, size_t deal, uint8_t *block,
+                               size_t room);
 
 #ifdef __cplusplus
 }

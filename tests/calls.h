@@ -13,13 +13,14 @@
 enum { BLOCK = TITMEADOW_BLOCK_BYTES };
 
 /* the exported calls; tests/calls.c has the refusals that each can give */
-enum call { PLAN, DEAL, JOIN, JOIN_BY_DIFFERENCES, OPEN, SALVAGE, PACK, UNPACK, DEAL_KEY, JOIN_KEY, CALLS };
+enum call { PLAN, DEAL, JOIN, JOIN_BY_DIFFERENCES, OPEN, SALVAGE, PACK, UNPACK, DEAL_KEY, JOIN_KEY, ADD, CALLS };
 
-/* The cases: planning and dealing; joining and opening; salvaging; keys. */
+/* The cases: planning and dealing; joining and opening; salvaging; keys; adding. */
 void cards(void);
 void piles(void);
 void salvage(void);
 void keys(void);
+void adding(void);
 
 /* Paints the field anew, and lends from its middle. */
 uint16_t *lend(void);

@@ -16,6 +16,7 @@ int main() {
     good &= titmeadow_join_key(card, TITMEADOW_BLOCK_BYTES, key, sizeof key).number == TITMEADOW_SHORT;
     good &= titmeadow_open(card, TITMEADOW_BLOCK_BYTES, head).a == TITMEADOW_HEAD_WORDS;
     good &= titmeadow_salvage(card, TITMEADOW_BLOCK_BYTES, list, 2 * TITMEADOW_PILE_MOST).a == 0;
+    good &= titmeadow_add(card, TITMEADOW_BLOCK_BYTES, card, TITMEADOW_BLOCK_BYTES, 7, nullptr, 0).number == TITMEADOW_DEAL;
     good &= titmeadow_join(card, TITMEADOW_BLOCK_BYTES, secret, TITMEADOW_SECRET_MOST).number == TITMEADOW_SHORT;
     good &= titmeadow_join_by_differences(card, TITMEADOW_BLOCK_BYTES, secret, TITMEADOW_SECRET_MOST).number == TITMEADOW_SHORT;
     return good ? 0 : 1;

@@ -30,6 +30,7 @@ static void salvage(void) {
     pile[14] = 0x7f, pile[15] = 0xff; /* a value of block 1, which comes back */
     sink = titmeadow_salvage(pile, piled, list, 2 * 560).a;
 }
+static void add(void) { sink = titmeadow_add(pile, 512, pile, 512, 9, card, sizeof card).a; }
 static void pack(void) { sink = titmeadow_pack(key, 16, words).a; }
 static void unpack(void) { sink = titmeadow_unpack(secret, 10, key, 16).a; }
 static void deal_key(void) { sink = titmeadow_deal_key(8, required, sets, required, 0, 7, 3, key, 16, randomness, 10 * 69, card, sizeof card).a; }
@@ -158,7 +159,7 @@ int main(void) {
     struct { const char *name; void (*f)(void); } calls[] = {
         {"titmeadow_plan", plan}, {"titmeadow_deal", deal}, {"titmeadow_join", join}, {"titmeadow_join_by_differences", join_by_differences},
         {"titmeadow_open", open}, {"titmeadow_salvage", salvage}, {"titmeadow_pack", pack}, {"titmeadow_unpack", unpack},
-        {"titmeadow_deal_key", deal_key}, {"titmeadow_join_key", join_key}};
+        {"titmeadow_deal_key", deal_key}, {"titmeadow_join_key", join_key}, {"titmeadow_add", add}};
     size_t base = used(nothing);
     for (size_t i = 0; i < sizeof calls / sizeof *calls; i++) {
         size_t bytes = used(calls[i].f) - base;

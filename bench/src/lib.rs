@@ -6,6 +6,7 @@ pub mod inputs;
 pub mod met;
 pub mod mixed;
 pub mod numbers;
+pub mod pairs;
 pub mod reference;
 pub mod scratched;
 pub mod unit;

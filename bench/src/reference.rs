@@ -1,12 +1,14 @@
 //! SCOPE written a second time: nothing here is shared with the proved code.
 //! Where the proved code and this disagree, SCOPE decides.
 
+mod adding;
 mod heaps;
 mod joined;
 mod keys;
 mod programs;
 mod salvage;
 
+pub use adding::add;
 pub use heaps::{heaps, outside, Label};
 pub use joined::{by_differences, join, join_by_differences, weights};
 pub use keys::{deal_key, join_key, pack, unpack};

@@ -56,6 +56,11 @@ pub fn salvage(pile: &mut [u8], list: &mut [u16]) -> Result<usize, Refusal> {
     calls::salvage(pile, list).result()
 }
 
+/// The sum of two blocks under this number into the front of `out`; how many blocks it is.
+pub fn add(one: &[u8], two: &[u8], number: usize, out: &mut [u8]) -> Result<usize, Refusal> {
+    calls::add(one, two, number, out).result()
+}
+
 /// A key's ten words into `words`; how many they are.
 pub fn pack(key: &[u8], words: &mut [u16; 10]) -> Result<usize, Refusal> {
     calls::pack(key, words).result()

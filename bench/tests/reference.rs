@@ -193,6 +193,37 @@ fn salvage_program() {
     assert_eq!(salvaging(&[0; 65536]), (vec![0; 65536], b"rebuilt 0\n".to_vec()));
 }
 
+/// P11's deal and deal 8 of secret 0, coefficients 32748 and 1 (pieces 0, 2, 6), under 9: pieces 1246, 1274, 1318, and 3 times the first less 3 times
+/// the second and the third come to 1234. Of holder 4's block the words before the value come to 2061, and 8 times 1246 makes 12029.
+#[test]
+fn p11_renewed() {
+    let zeros = Deal { number: 8, secret: vec![0], random: vec![32748, 1], ..p11() };
+    let renewed = |holder: usize| {
+        let (old, zero) = (card(&p11(), holder), card(&zeros, holder));
+        let blocks = old.chunks(BLOCK).zip(zero.chunks(BLOCK)).map(|(one, two)| {
+            let mut out = [9; BLOCK];
+            assert_eq!(add(one, two, 9, &mut out), Ok(1));
+            out
+        });
+        blocks.collect::<Vec<_>>()
+    };
+    let pile = [renewed(4), renewed(2), renewed(1)].concat();
+    let values: Vec<(u16, u16)> = pile.iter().map(|block| (words_of(block)[6], words_of(block)[7])).collect();
+    assert_eq!(values, [(1, 1246), (1, 1246), (2, 1274), (3, 1318)]);
+    let words = words_of(&pile[0]);
+    assert_eq!(words[..9], [1987, 9, 4, 4, 3, 1, 1, 1246, 0]);
+    assert_eq!(words[255], 12029);
+    let mut out = [9; 2];
+    assert_eq!((join(&pile.concat(), &mut out), out), (Ok(1), [1234, 9]));
+    // an old block among the new ones, on top and at the end; the old ones among themselves
+    let old = [card(&p11(), 4), pile[2].to_vec(), pile[3].to_vec()].concat();
+    assert_eq!(join(&old, &mut out), Err(Refusal { number: 18, a: 1, b: 0 }));
+    let old = [pile[0].to_vec(), pile[2].to_vec(), card(&p11(), 1)].concat();
+    assert_eq!(join(&old, &mut out), Err(Refusal { number: 18, a: 3, b: 0 }));
+    let old = [card(&p11(), 1), card(&p11(), 2)].concat();
+    assert_eq!((join(&old, &mut out), out), (Ok(1), [1234, 9]));
+}
+
 #[test]
 fn eight_people_any_five() {
     let fives: Vec<u16> = (0..256).filter(|set: &u16| set.count_ones() == 5).collect();

@@ -164,6 +164,30 @@ fn salvage(good: &[u8]) {
     }
 }
 
+/// Adding two blocks of 16 words, and refusing two that differ in word 7, the last that is compared.
+fn add(blocks: &[Vec<u8>]) {
+    let mut other = blocks[0].clone();
+    inputs::with_word(&mut other, 2, 8, true);
+    for (name, two, want) in [
+        ("adding two blocks of 16 words", &other, Ok(1)),
+        ("refusing two blocks of unlike pieces", &blocks[1], Err(Refusal { number: 24, a: 7, b: 0 })),
+    ] {
+        let (mut ours, mut theirs) = ([0; BLOCK], [0; BLOCK]);
+        assert_eq!(unit::add(&blocks[0], two, 9, &mut ours), want);
+        assert_eq!(reference::add(&blocks[0], two, 9, &mut theirs), want);
+        assert_eq!(ours, theirs);
+        compare(
+            name,
+            || {
+                black_box(unit::add(black_box(&blocks[0]), two, 9, &mut ours)).ok();
+            },
+            || {
+                black_box(reference::add(black_box(&blocks[0]), two, 9, &mut theirs)).ok();
+            },
+        );
+    }
+}
+
 /// Mixed piles as large as can be, all blocks true, up to MIXED: 560 deals of a block each, and two heaps of 280 whose blocks take turns.
 fn mixed() {
     let values = secret();
@@ -237,6 +261,9 @@ fn main() {
     let many: Vec<u8> = (0..560).flat_map(|i| all[i % 70].clone()).collect();
     join("joining 560 blocks of 70 pieces", &many);
     salvage(&many);
+    // two pieces that one holder has
+    let held: Vec<Vec<u8>> = inputs::blocks(&d, 1);
+    add(&held);
     for blocks in [70, 140, 280] {
         join(&format!("joining {blocks} blocks of 70 pieces"), &many[..blocks * BLOCK]);
     }

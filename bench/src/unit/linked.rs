@@ -30,6 +30,15 @@ extern "C" {
     fn titmeadow_join_by_differences(pile: *const u8, length: usize, secret: *mut u16, room: usize) -> Answer;
     fn titmeadow_open(pile: *const u8, length: usize, head: *mut u16) -> Answer;
     fn titmeadow_salvage(pile: *mut u8, length: usize, list: *mut u16, numbers: usize) -> Answer;
+    fn titmeadow_add(
+        one: *const u8,
+        one_length: usize,
+        two: *const u8,
+        two_length: usize,
+        deal: usize,
+        block: *mut u8,
+        room: usize,
+    ) -> Answer;
     fn titmeadow_pack(key: *const u8, length: usize, words: *mut u16) -> Answer;
     fn titmeadow_unpack(words: *const u16, count: usize, key: *mut u8, room: usize) -> Answer;
     fn titmeadow_deal_key(
@@ -88,6 +97,10 @@ pub fn open(pile: &[u8], head: &mut [u16; 7]) -> Answer {
 
 pub fn salvage(pile: &mut [u8], list: &mut [u16]) -> Answer {
     unsafe { titmeadow_salvage(pile.as_mut_ptr(), pile.len(), list.as_mut_ptr(), list.len()) }
+}
+
+pub fn add(one: &[u8], two: &[u8], number: usize, out: &mut [u8]) -> Answer {
+    unsafe { titmeadow_add(one.as_ptr(), one.len(), two.as_ptr(), two.len(), number, out.as_mut_ptr(), out.len()) }
 }
 
 pub fn pack(key: &[u8], words: &mut [u16; 10]) -> Answer {

@@ -103,6 +103,10 @@ pub fn salvage(pile: &mut [u8], list: &mut [u16]) -> Answer {
     said
 }
 
+pub fn add(one: &[u8], two: &[u8], number: usize, out: &mut [u8]) -> Answer {
+    ask(11, [number, 0, 0], [one, two, &[], &[]], out)
+}
+
 pub fn pack(key: &[u8], words: &mut [u16; 10]) -> Answer {
     ask_words(6, [0; 3], [key, &[], &[], &[]], words)
 }

@@ -6,7 +6,7 @@ use Prim.Native.Nat.{ℕ}
 use lib.ListN.{getD}
 use Rattle.answer.specs.declared.Kind.{Kind}
 use Rattle.answer.specs.declared.Kind.the-variants.{People, LongList, Stranger, Nobody, Open, Clash, Wide, Deal, Holder, Secret, Random}
-use Rattle.answer.specs.declared.Kind.the-variants.{Room, Torn, Long, Unread, Check, Header, Mixed, Conflict, Short, Text, Lone, NotKey}
+use Rattle.answer.specs.declared.Kind.the-variants.{Room, Torn, Long, Unread, Check, Header, Mixed, Conflict, Short, Text, Lone, NotKey, Unlike}
 use Rattle.answer.specs.declared.Refusal.{Refusal}
 use Rattle.answer.specs.declared.Answer.{Answer}
 use Rattle.answer.specs.declared.Answer.the-variants.{Done, Refused}
@@ -16,9 +16,9 @@ use Rattle.answer.specs.Outcome.{number, outcome}
 kindOf : ℕ → Kind
 kindOf n =
     getD
-    (NotKey ∷ People ∷ LongList ∷ Stranger ∷ Nobody ∷ Open ∷ Clash ∷ Wide ∷ Deal ∷ Holder ∷ Secret ∷ Random
-    ∷ Room ∷ Torn ∷ Long ∷ Unread ∷ Check ∷ Header ∷ Mixed ∷ Conflict ∷ Short ∷ Text ∷ Lone ∷ [])
-    n NotKey
+    (Unlike ∷ People ∷ LongList ∷ Stranger ∷ Nobody ∷ Open ∷ Clash ∷ Wide ∷ Deal ∷ Holder ∷ Secret ∷ Random
+    ∷ Room ∷ Torn ∷ Long ∷ Unread ∷ Check ∷ Header ∷ Mixed ∷ Conflict ∷ Short ∷ Text ∷ Lone ∷ NotKey ∷ [])
+    n Unlike
 
 kind-back : (k : Kind) → kindOf (number k) ≡ k
 unfolding kindOf
@@ -45,6 +45,7 @@ kind-back Short = refl
 kind-back Text = refl
 kind-back Lone = refl
 kind-back NotKey = refl
+kind-back Unlike = refl
 
 pub number-one : (j k : Kind) → number j ≡ number k → j ≡ k
 number-one j k e = sym (kind-back j) ∙ ap kindOf e ∙ kind-back k

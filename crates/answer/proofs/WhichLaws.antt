@@ -14,7 +14,7 @@ use Rattle.lists.specs.Some.{_∈_, some}
 use Rattle.lists.specs.Laws.{IsFirst}
 use Rattle.lists.proofs.Truth.{never, neither}
 use Rattle.lists.proofs.SomeLaws.{in-some}
-use Rattle.lists.proofs.FirstLaws.{first-of, has-test, below-end}
+use Rattle.lists.proofs.FirstLaws.{first-of, has-test, below-in}
 use Rattle.answer.specs.Outcome.{Outcome, done, refused, number}
 use Rattle.answer.specs.Checks.{Line, pick, firstFail, numbers}
 use Rattle.answer.specs.Laws.{Passed}
@@ -86,10 +86,14 @@ one-of-two m ls l k ms v a b e before after =
     (this-or-later m l (k ∷ ms) (done v) a b (after-others m ls (l ∷ k ∷ ms) (done v) a b e before .1))
 
 -- ---- a place that is found is the first
+pub first-found : (t : ℕ → Bool) (i e : ℕ) {f : ℕ} → found (firstIn t i e) ≡ true → firstIn t i e ≡ f → IsFirst t i e f
+first-found t i e h q =
+    let some = eqb-false _ _ (not-true _ h) in
+    let r = has-test t i e some in
+    subst (IsFirst t i e) q (first-of t i e (firstIn t i e) (r .1) (below-in t i e some) (r .0) .0)
+
 pub first-is : (t : ℕ → Bool) (n : ℕ) {f : ℕ} → found (firstIn t 1 (n + 1)) ≡ true → firstIn t 1 (n + 1) ≡ f → IsFirst t 1 (n + 1) f
-first-is t n e q =
-    let h = has-test t 1 (n + 1) (eqb-false _ _ (not-true _ e)) in
-    subst (IsFirst t 1 (n + 1)) q (first-of t 1 (n + 1) (firstIn t 1 (n + 1)) (h .1) (omega (arith, below-end t n)) (h .0) .0)
+first-is t n = first-found t 1 (n + 1)
 
 pub place-is : (test : ℕ → Bool) (l : List ℕ) {f : ℕ} → found (firstPlace test l) ≡ true → firstPlace test l ≡ f
     → IsFirst (λ i. test (at l i)) 1 (length l + 1) f

@@ -28,6 +28,7 @@ pub enum Kind {
     Text,
     Lone,
     NotKey,
+    Unlike,
 }
 
 // A refusal: its kind and its two places, each 0 where SCOPE 6.2 names none.
@@ -71,6 +72,7 @@ pub fn number_of(k: Kind) -> usize
         Kind::Text => 21,
         Kind::Lone => 22,
         Kind::NotKey => 23,
+        Kind::Unlike => 24,
     }
 }
 

@@ -23,10 +23,10 @@ use Rattle.block.specs.Open.{firstAbove}
 use Rattle.block.specs.Written.{body, blockBytes}
 use Rattle.dealing.specs.Deal.{blockFor, dealPieces, heldBy, card}
 use Rattle.lists.specs.Flat.{flat}
-use Rattle.dealing.specs.Dealt.{badNumber, badHolder, badWidth, badSecret, badCount, badRandom, inputLines, blockCount, dealLines, dealing, Made}
+use Rattle.dealing.specs.Dealt.{badHolder, badWidth, badSecret, badCount, badRandom, inputLines, blockCount, dealLines, dealing, Made}
 use Rattle.dealing.proofs.Laws as law
 use Rattle.pile.specs.Blocks.{blocks, restFrom}
-use Rattle.block.specs.Deals.{sameDeal}
+use Rattle.block.specs.Deals.{badNumber, sameDeal}
 use Rattle.joining.specs.Pile.{heapOf, inLargest, ownBlock, placeOf, differIn, present}
 use Rattle.pile.specs.Lines.{linesFrom, everyBlock}
 use Rattle.joining.specs.Checks.{mixedAt, contradicts, contradictedBy, conflictAt, pileLines}

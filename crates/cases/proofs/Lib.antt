@@ -1,3 +1,4 @@
 pub mod Listing
 pub mod Bytes
 pub mod Table
+pub mod Renewed

@@ -31,7 +31,7 @@ unfolding pieceValues
 values-length d j = field.values-length (dealPieces d - 1) (d .secret) (d .random) j
 
 -- ---- what a card depends on
-map-same : (f g : ℕ → List ℕ) (l : List ℕ) → ((j : ℕ) → j ∈ l → f j ≡ g j) → map f l ≡ map g l
+pub map-same : (f g : ℕ → List ℕ) (l : List ℕ) → ((j : ℕ) → j ∈ l → f j ≡ g j) → map f l ≡ map g l
 map-same f g [] e = refl
 map-same f g (j ∷ l) e =
     ap₂ (λ (x : List ℕ) (xs : List (List ℕ)). x ∷ xs) (e j (List·Memᴰ·head refl)) (map-same f g l (λ i m. e i (List·Memᴰ·tail m)))

@@ -5,29 +5,19 @@ use mathlib.Core.Path.{_≡_}
 use mathlib.Core.Bool.{false}
 use mathlib.Core.List.{List}
 use native.Mathlib.Omega.{arith}
-use lib.Dec.{eqb, ltb}
 use lib.ListN.{length, getD}
-use borrow.Author.Tests.{ltb-false, le-ltb, eqb-true, eqb-false, eq-eqb, ne-eqb, not-false}
+use borrow.Author.Tests.{ltb-false, le-ltb, eqb-true, eq-eqb, not-false}
 use Rattle.answer.specs.Laws.{Passed}
 use Rattle.lists.specs.Places.{firstPlace, found, at}
 use Rattle.answer.proofs.CheckLaws.{passed, passed-none, passed-one}
 use Rattle.lists.proofs.FirstLaws.{place-lacks, none-found, first-all, found-none}
 use Rattle.prime.specs.Prime.{Below, tooLarge}
 use Rattle.field.proofs.Sums.{below-within}
-use Rattle.lists.proofs.Truth.{neither}
+use Rattle.lists.proofs.RangeLaws.{in-range, range-in}
 use Rattle.dealing.specs.declared.Asked.{Asked}
-use Rattle.dealing.specs.Dealt.{outside, badNumber, badHolder, badWidth, badSecret, badCount, badRandom, inputLines}
+use Rattle.block.specs.Deals.{badNumber}
+use Rattle.dealing.specs.Dealt.{badHolder, badWidth, badSecret, badCount, badRandom, inputLines}
 use Rattle.dealing.specs.Inner.{Ready}
-
--- ---- a number in its range
-pub in-range : (high v : ℕ) → outside high v ≡ false → (1 ≤ v) × (v ≤ high)
-in-range high v e =
-    let h = neither (eqb v 0) (ltb high v) e in
-    let n : v ≡ 0 → ⊥ = eqb-false v 0 (h .0) in
-    (omega arith, ltb-false high v (h .1))
-
-pub range-in : (high v : ℕ) → 1 ≤ v → v ≤ high → outside high v ≡ false
-range-in high v l u = rw (ne-eqb v 0 (λ z. omega arith), le-ltb high v u)
 
 -- ---- words of at most 32748
 small-words : (l : List ℕ) → found (firstPlace tooLarge l) ≡ false → Below l

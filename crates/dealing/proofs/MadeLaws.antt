@@ -3,6 +3,7 @@
 use Prim.Native.Nat.{ℕ, _*_, _≤_}
 use mathlib.Core.Path.{_≡_, refl, sym, ap, _∙_}
 use mathlib.Core.List.{List, [], _∷_, _++_}
+use native.Mathlib.Nat.{le-refl}
 use native.Mathlib.Omega.{arith}
 use lib.ListN.{length, drop}
 use borrow.Author.Tests.{ltb-false}
@@ -122,6 +123,17 @@ module _ (d : Deal) (f : InRange d) (holder : ℕ) (least : 1 ≤ holder) (most 
       × (valueBytes (blockOf d holder j ++ rest) ≡ bytesOf (pieceValues d j))
   unfolding blockOf blockFor label pieceValues
   blocks-open j m rest = opens-written (label d holder j) (pieceValues d j) rest (buildable j m)
+
+-- ---- what is in range can be dealt: into as much room as some card wants
+pub in-range-made : (d : Deal) → InRange d → Made d
+in-range-made d f =
+    let room = 512 * blockCount d (f .holder) in
+    record {
+      holder = f .holder;
+      room = room;
+      blocks = blockCount d (f .holder);
+      answer = deals-all d f (f .holder) (f .ready .holder-in .0) (f .ready .holder-in .1) room (le-refl room);
+    }
 
 -- ---- what is left in the lent output
 module _ (d : Deal) (holder : ℕ) (out : List ℕ) (blocks : ℕ) (e : dealing d holder (length out) ≡ done blocks) where

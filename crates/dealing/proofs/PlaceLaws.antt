@@ -17,9 +17,10 @@ use Rattle.answer.specs.Lent.{noRoom}
 use Rattle.answer.proofs.WhichLaws.{Gives, only-one, one-of-two, place-is}
 use Rattle.planning.specs.Planned.{people, long, strangers, nobody, opens, lone, clash, wide, listLines, planLines}
 use Rattle.dealing.specs.Deal.{Deal, askedOf, dealPieces}
-use Rattle.dealing.specs.Dealt.{badNumber, badHolder, badWidth, badSecret, badCount, badRandom, inputLines, blockCount, dealLines, dealing}
+use Rattle.block.specs.Deals.{badNumber}
+use Rattle.dealing.specs.Dealt.{badHolder, badWidth, badSecret, badCount, badRandom, inputLines, blockCount, dealLines, dealing}
 use Rattle.dealing.specs.Laws.{SecretPlaces, RandomPlaces, RoomPlaces}
-use Rattle.dealing.proofs.InputLaws.{in-range, range-in}
+use Rattle.lists.proofs.RangeLaws.{in-range, range-in}
 
 -- the lines before those that look at the secret
 abbrev askedLines : Deal → ℕ → List Line

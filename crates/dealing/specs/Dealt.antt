@@ -2,27 +2,20 @@
 -- Assumes nothing.
 use Prim.Native.Nat.{ℕ, _-_, _*_}
 use mathlib.Core.Path.{_≡_}
-use mathlib.Core.Bool.{Bool, not, _||_}
+use mathlib.Core.Bool.{not}
 use mathlib.Core.List.{List, [], _∷_, _++_}
-use lib.Dec.{eqb, ltb}
+use lib.Dec.{eqb}
 use lib.ListN.{length}
 use Rattle.prime.specs.Prime.{tooLarge}
-use Rattle.answer.specs.declared.Kind.the-variants.{Deal as DealKind, Holder, Secret, Random}
+use Rattle.answer.specs.declared.Kind.the-variants.{Holder, Secret, Random}
 use Rattle.answer.specs.Outcome.{Outcome, done}
 use Rattle.answer.specs.Checks.{Line, line, firstFail}
-use Rattle.lists.specs.Places.{firstPlace, found}
+use Rattle.lists.specs.Places.{firstPlace, found, outside}
 use Rattle.answer.specs.Lent.{noRoom, left}
 use Rattle.planning.specs.Planned.{planLines}
+use Rattle.block.specs.Deals.{badNumber}
 use Rattle.dealing.specs.declared.Asked.{Asked}
 use Rattle.dealing.specs.Deal.{Deal, askedOf, dealPieces, heldBy, card}
-
--- a number outside 1 to high
-abbrev pub outside : ℕ → ℕ → Bool
-outside high v = eqb v 0 || ltb high v
-
--- 8 DEAL: the deal number is 0 or exceeds 32748
-unfoldable pub badNumber : ℕ → Line
-badNumber number = line DealKind (outside 32748 number) 0 0
 
 -- 9 HOLDER: the holder is 0 or exceeds n
 unfoldable pub badHolder : ℕ → ℕ → Line

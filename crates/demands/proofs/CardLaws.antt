@@ -16,7 +16,7 @@ use Rattle.demands.proofs.BlockLaws.{card-block}
 use Rattle.lists.proofs.FlatLaws.{Long, flat-drop}
 
 -- ---- a list of blocks made from a list of pieces
-map-at : (f : ℕ → List ℕ) (l : List ℕ) (a : ℕ) → a < length l → getD (map f l) a [] ≡ f (getD l a 0)
+pub map-at : (f : ℕ → List ℕ) (l : List ℕ) (a : ℕ) → a < length l → getD (map f l) a [] ≡ f (getD l a 0)
 map-at f [] a h = absurd (not-suc-le-zero h)
 map-at f (x ∷ l) zero h = refl
 map-at f (x ∷ l) (suc a) h = map-at f l a (le-of-suc-le-suc h)

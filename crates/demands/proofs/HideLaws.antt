@@ -23,7 +23,7 @@ use Rattle.demands.specs.Demand3.{LentFor, cardFrom, HiddenFrom, DealsAl
 use Rattle.demands.proofs.GroupLaws.{one-lost}
 
 -- a person who does not hold piece m holds other pieces
-other-piece : (d : Deal) (i m j : ℕ) → holds (d .policy .people) (d .policy .required) i m ≡ false → j ∈ heldBy d i → j ≢ m
+pub other-piece : (d : Deal) (i m j : ℕ) → holds (d .policy .people) (d .policy .required) i m ≡ false → j ∈ heldBy d i → j ≢ m
 other-piece d i m j none h e =
     never none (subst (λ (x : ℕ). holds (d .policy .people) (d .policy .required) i x ≡ true) e (held-in d i j h .2))
 

@@ -16,5 +16,10 @@ pub mod Demand3
 pub mod Keys
 pub mod ScratchLaws
 pub mod Salvage
+pub mod RenewalBlocks
+pub mod RenewalCards
+pub mod RenewalHiding
+pub mod RenewalJoins
+pub mod Renewal
 pub mod ReaderLaws
 pub mod Readings

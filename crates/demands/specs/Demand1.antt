@@ -22,7 +22,8 @@ use Rattle.block.specs.Layout.{frontWords}
 use Rattle.block.specs.Open.{above, torn, unread, check, header, blockLines, opening, TrueBlock}
 use Rattle.block.specs.Laws.{Refusable}
 use Rattle.dealing.specs.Deal.{Deal, dealPieces}
-use Rattle.dealing.specs.Dealt.{badNumber, badHolder, badWidth, badSecret, badCount, badRandom, blockCount, dealLines, dealing, dealtInto}
+use Rattle.block.specs.Deals.{badNumber}
+use Rattle.dealing.specs.Dealt.{badHolder, badWidth, badSecret, badCount, badRandom, blockCount, dealLines, dealing, dealtInto}
 use Rattle.pile.specs.Blocks.{blocks, restFrom, word, In}
 use Rattle.pile.specs.Lines.{tornPile, longPile, everyBlock}
 use Rattle.joining.specs.Pile.{ownWidth}

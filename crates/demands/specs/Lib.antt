@@ -4,5 +4,6 @@ pub mod Demand2
 pub mod Demand3
 pub mod Keys
 pub mod Salvage
+pub mod Renewal
 pub mod Reader
 pub mod Readings

@@ -6,6 +6,7 @@ use Prim.Native.Nat.{ℕ, zero, suc, _+_, _*_, _%_, _≤_}
 use native.Mathlib.Omega.{arith}
 use native.Mathlib.Nat.{suc-inj, suc-ne-zero, not-suc-le-zero, le-of-suc-le-suc}
 use lib.ListN.{length, getD, take, drop, length-take, length-drop}
+use Rattle.lists.specs.Run.{run}
 use Rattle.prime.specs.Prime.{p, Below}
 use Rattle.field.specs.Poly.{value, piece}
 use Rattle.field.specs.Pieces.{values}
@@ -32,6 +33,31 @@ added-at [] (y ∷ ys) l i = absurd (suc-ne-zero (length ys) (sym l))
 added-at (x ∷ xs) [] l i = absurd (suc-ne-zero (length xs) l)
 added-at (x ∷ xs) (y ∷ ys) l zero = refl
 added-at (x ∷ xs) (y ∷ ys) l (suc i) = added-at xs ys (suc-inj l) i
+
+-- two runs
+pub added-run : (f g : ℕ → ℕ) (x n : ℕ) → added (run f x n) (run g x n) ≡ run (λ i. (f i + g i) % p) x n
+unfolding added run
+added-run f g x zero = refl
+added-run f g x (suc n) = ap (λ (zs : List ℕ). (f x + g x) % p ∷ zs) (added-run f g (suc x) n)
+
+-- exchanged, and grouped the other way
+pub added-exchanged : (xs ys : List ℕ) → added xs ys ≡ added ys xs
+unfolding added
+added-exchanged [] [] = refl
+added-exchanged [] (y ∷ ys) = refl
+added-exchanged (x ∷ xs) [] = refl
+added-exchanged (x ∷ xs) (y ∷ ys) =
+    let e : (x + y) % p ≡ (y + x) % p = omega arith in
+    ap₂ (λ (z : ℕ) (zs : List ℕ). z ∷ zs) e (added-exchanged xs ys)
+
+pub added-grouped : (xs ys zs : List ℕ) → added (added xs ys) zs ≡ added xs (added ys zs)
+unfolding added
+added-grouped [] ys zs = refl
+added-grouped (x ∷ xs) [] zs = refl
+added-grouped (x ∷ xs) (y ∷ ys) [] = refl
+added-grouped (x ∷ xs) (y ∷ ys) (z ∷ zs) =
+    let e : ((x + y) % p + z) % p ≡ (x + (y + z) % p) % p = omega arith in
+    ap₂ (λ (v : ℕ) (vs : List ℕ). v ∷ vs) e (added-grouped xs ys zs)
 
 -- ---- polynomials
 added-value : (cs ds : List ℕ) (x : ℕ) → length cs ≡ length ds → value (added cs ds) x ≈ value cs x + value ds x

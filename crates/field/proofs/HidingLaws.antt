@@ -16,7 +16,7 @@ matched-back m = record {
 }
 
 module _ {X Y W : Type 0} {A : X → Type 0} {B : Y → Type 0} {one : X → W → List ℕ} {other : Y → W → List ℕ} {member : W → Type 0} where
-  pub hidden-back : Hidden A B one other member → Hidden B A other one member
+  unfoldable pub hidden-back : Hidden A B one other member → Hidden B A other one member
   unfolding matched-back
   hidden-back h = record {
     pairs = matched-back (h .pairs);

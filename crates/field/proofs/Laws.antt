@@ -19,6 +19,8 @@ use Rattle.field.proofs.HidingLaws as hiding
 use Rattle.field.proofs.Table as table
 use Rattle.field.proofs.AddedLaws as sums
 use Rattle.field.proofs.SecretLaws as secret
+use Rattle.field.proofs.SumLaws as joint
+use Rattle.field.proofs.Renewing as renewing
 
 pub values-at : law.ValuesAt
 values-at q ds rs j i l h = values.values-at q ds rs j (i - 1) (omega arith)
@@ -72,6 +74,19 @@ added-at = sums.added-at
 
 pub values-added : law.ValuesAdded
 values-added = sums.values-added
+
+pub zeros-added : law.ZerosAdded
+zeros-added = renewing.zeros-added
+
+pub paired-two-some : law.PairedTwoSome
+paired-two-some k m m′ ds ds′ h l u l′ u′ e b b′ =
+    renewing.paired-two k m m′ ds ds′ b b′ (paired-some k m ds ds′ h l u e) (paired-some k m′ ds ds′ h l′ u′ e)
+
+pub joined-added : law.JoinedAdded
+joined-added = joint.joined-added
+
+pub secret-added : law.SecretAdded
+secret-added = joint.secret-added
 
 pub secret-one : law.SecretOne
 secret-one v k w h b =

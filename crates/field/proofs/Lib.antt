@@ -15,4 +15,6 @@ pub mod HidingLaws
 pub mod Pairing
 pub mod AddedLaws
 pub mod SecretLaws
+pub mod SumLaws
+pub mod Renewing
 pub mod Laws

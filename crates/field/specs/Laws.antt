@@ -16,6 +16,7 @@ use Rattle.prime.specs.Inverse.{inverse}
 use Rattle.field.specs.Lagrange.{Weights, weightsOf}
 use Rattle.field.specs.Added.{added}
 use Rattle.field.specs.Secret.{column, secretOf}
+use Rattle.field.specs.Renewing.{zerosFor, PairedTwo}
 
 -- SCOPE 3: coefficients are read off the lent randomness from its front, one word after the other. With q for each, word i has those after
 -- the first (i−1)·q.
@@ -96,6 +97,26 @@ AddedAt = (xs ys : List ℕ) → length xs ≡ length ys → (i : ℕ) → getD 
 abbrev pub ValuesAdded : Type 0
 ValuesAdded = (q : ℕ) (ds ds′ rs rs′ : List ℕ) (j : ℕ) → length ds ≡ length ds′ → length rs ≡ length rs′
     → values q (added ds ds′) (added rs rs′) j ≡ added (values q ds rs j) (values q ds′ rs′ j)
+
+-- Adding a deal of as many zeros leaves the secret: what comes out is a deal of the same words, with the added randomness.
+abbrev pub ZerosAdded : Type 0
+ZerosAdded = (q : ℕ) (ds rs rs′ : List ℕ) (j : ℕ) → Below ds → length rs ≡ length rs′
+    → added (values q ds rs j) (values q (zerosFor ds) rs′ j) ≡ values q ds (added rs rs′) j
+
+-- Whichever piece m of the deal and whichever piece m′ of the sum are lacking, the pairs of randomness of any two secrets of as many words stand in
+-- pairs, by a map and its inverse, so that every other piece of the deal and every other piece of the sum has the same values.
+abbrev pub PairedTwoSome : Type 0
+PairedTwoSome = (k m m′ : ℕ) (ds ds′ : List ℕ) → k < p → 1 ≤ m → m ≤ k → 1 ≤ m′ → m′ ≤ k → length ds ≡ length ds′ → Below ds → Below ds′
+    → PairedTwo k m m′ ds ds′
+
+-- Pieces that are added join to the sum mod p of the words.
+abbrev pub JoinedAdded : Type 0
+JoinedAdded = (ys zs : List ℕ) → length ys ≡ length zs → joined (added ys zs) ≡ (joined ys + joined zs) % p
+
+-- And so word by word: where every value is the sum mod p of two others, the secret is the sum of the two secrets.
+abbrev pub SecretAdded : Type 0
+SecretAdded = (u v v′ : ℕ → ℕ → ℕ) (k w : ℕ) → ((j i : ℕ) → 1 ≤ j → j ≤ k → 1 ≤ i → i ≤ w → u j i ≡ (v j i + v′ j i) % p)
+    → secretOf u k w ≡ added (secretOf v k w) (secretOf v′ k w)
 
 -- The secret of k pieces has w words, each one of 0 to 32748. For word i there is one polynomial of degree less than k that has value i of
 -- piece j at j, for each piece 1 to k; the word is its value at 0.

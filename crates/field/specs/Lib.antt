@@ -6,4 +6,5 @@ pub mod Differences
 pub mod Lagrange
 pub mod Added
 pub mod Secret
+pub mod Renewing
 pub mod Laws

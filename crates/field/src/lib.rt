@@ -5,7 +5,7 @@ mod differences;
 pub use differences::join_by_differences;
 ghost use mathlib.Core.Path.{_≡_};
 ghost use mathlib.Core.List.{_∷_};
-ghost use Prim.Native.Nat.{_*_, _%_, _<_, _≤_};
+ghost use Prim.Native.Nat.{_+_, _*_, _%_, _<_, _≤_};
 ghost use lib.ListN.{length, take};
 ghost use Rattle.prime.specs.Prime.{p, Below};
 ghost use Rattle.field.specs.Poly.{value, piece};
@@ -13,6 +13,15 @@ ghost use Rattle.field.specs.Pieces.{values};
 ghost use Rattle.field.specs.Joined.{joined};
 ghost use Rattle.prime.specs.Inverse.{inverse};
 ghost use Rattle.field.specs.Lagrange.{lagrangeWeight, Weights, weightsOf};
+
+// a + b mod p: where the sum reaches p, p is taken off.
+pub fn add(a: u16, b: u16) -> u16
+    requires { ⌜ (a ≤ 32748) × (b ≤ 32748) ⌝ }
+    ensures { λ r. ⌜ r ≡ (a + b) % p ⌝ }
+{
+    let sum = a + b;
+    if sum < 32749 { sum } else { sum - 32749 }
+}
 
 // v, or its remainder where v is above 2^47: one turn of Horner's rule more, times at most 65535 and plus at most 32748, then fits.
 fn lower(v: u64) -> u64

@@ -1,16 +1,12 @@
 -- What the loops write over the front of a list, and that the values of a full pile's pieces are below p.
 -- Assumes nothing.
-use mathlib.Core.Path.{_≡_, sym, ap, _∙_}
-use mathlib.Core.List.{List, [], _∷_, _++_}
+use mathlib.Core.Path.{_≡_, ap, _∙_}
+use mathlib.Core.List.{List, _++_}
 use Prim.Native.Nat.{ℕ, _+_, _≤_, _<_}
-use native.Mathlib.Numerals.{add-one}
 use native.Mathlib.Omega.{arith}
-use lib.ListN.{length, set, drop, take}
+use lib.ListN.{length, drop, take}
 use lib.Seq.{take-at, drop-at}
-use Rattle.lists.specs.Run.{run}
-use Rattle.lists.proofs.RunLaws.{run-length, run-end}
 use Rattle.lists.specs.Over.{over}
-use Rattle.lists.proofs.OverLaws.{over-more}
 use Rattle.prime.specs.Prime.{p}
 use Rattle.field.specs.Differences.{firsts}
 use Rattle.field.specs.Secret.{column}
@@ -21,15 +17,6 @@ use Rattle.joining.specs.Pile.{ownPieces, ownWidth, placeOf, valueAt}
 use Rattle.joining.specs.Inner.{Full}
 use Rattle.joining.proofs.PileLaws.{width-in}
 use Rattle.joining.proofs.TableLaws.{place-most}
-
--- ---- a run that is written over the front of a list: one number more
-pub over-on : (f : ℕ → ℕ) (old out : List ℕ) (i v : ℕ) → i < length old → v ≡ f (i + 1) → out ≡ over (run f 1 i) old
-    → set out i v ≡ over (run f 1 (i + 1)) old
-over-on f old out i v l e h =
-    let s : 1 + i ≡ i + 1 = omega arith in
-    let n : length (run f 1 i) ≡ i = run-length f 1 i in
-    let more : run f 1 (i + 1) ≡ run f 1 i ++ (v ∷ []) = ap (run f 1) (add-one i) ∙ run-end f 1 i ∙ ap (λ (y : ℕ). run f 1 i ++ (y ∷ [])) (ap f s ∙ sym e) in
-    ap (λ (r : List ℕ). set r i v) h ∙ (rw n at (over-more (run f 1 i) old v (omega arith))) ∙ ap (λ (r : List ℕ). over r old) (sym more)
 
 -- ---- what a function that is lent the first k values of a column goes by
 module _ (v : ℕ → ℕ → ℕ) (k i : ℕ) (old values : List ℕ) (is : values ≡ over (column v k i) old) where

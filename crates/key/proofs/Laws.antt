@@ -8,7 +8,7 @@ use native.Mathlib.Omega.{arith}
 use lib.Dec.{eqb}
 use lib.ListN.{length, getD}
 use borrow.Author.Tests.{le-ltb, eqb-true, eqb-false, not-true, not-false}
-use Rattle.lists.specs.Places.{found, firstPlace, at}
+use Rattle.lists.specs.Places.{found, outside, firstPlace, at}
 use Rattle.lists.specs.Some.{some}
 use Rattle.lists.proofs.FirstLaws.{first-all, found-none}
 use Rattle.prime.specs.Prime.{tooLarge}
@@ -24,7 +24,8 @@ use Rattle.packing.proofs.PackLaws.{packed-ten, packed-small}
 use Rattle.packing.proofs.SayLaws.{not-key-means, no-wrong, says-few, says-wrong}
 use Rattle.planning.specs.Planned.{planLines}
 use Rattle.dealing.specs.Deal.{dealPieces}
-use Rattle.dealing.specs.Dealt.{outside, badNumber, badHolder, badWidth, badSecret, badCount, badRandom, inputLines, blockCount, dealLines, dealing}
+use Rattle.block.specs.Deals.{badNumber}
+use Rattle.dealing.specs.Dealt.{badHolder, badWidth, badSecret, badCount, badRandom, inputLines, blockCount, dealLines, dealing}
 use Rattle.pile.specs.Blocks.{blocks}
 use Rattle.pile.specs.Lines.{tornPile, longPile, everyBlock}
 use Rattle.joining.specs.Checks.{wholeLines, pileLines}

@@ -16,7 +16,8 @@ use Rattle.packing.specs.Key.{KeyWords, wrongAt}
 use Rattle.planning.specs.Policy.{Policy}
 use Rattle.planning.specs.Planned.{planLines}
 use Rattle.dealing.specs.Deal.{dealPieces}
-use Rattle.dealing.specs.Dealt.{badNumber, badHolder, badCount, badRandom, blockCount, dealing}
+use Rattle.block.specs.Deals.{badNumber}
+use Rattle.dealing.specs.Dealt.{badHolder, badCount, badRandom, blockCount, dealing}
 use Rattle.joining.specs.Pile.{ownWidth}
 use Rattle.joining.specs.Joined.{joining}
 use Rattle.joining.specs.Secret.{secret}

@@ -1,4 +1,5 @@
 pub mod Truth
+pub mod RangeLaws
 pub mod FirstLaws
 pub mod AheadLaws
 pub mod ThoseLaws

@@ -1,9 +1,9 @@
 -- Places, which are counted from 1 (SCOPE 1); 0 says that there is none.
 -- Assumes nothing.
-use mathlib.Core.Bool.{Bool, cond, not}
+use mathlib.Core.Bool.{Bool, cond, not, _||_}
 use mathlib.Core.List.{List, [], _∷_, _++_}
 use Prim.Native.Nat.{ℕ, zero, suc, _+_, _-_}
-use lib.Dec.{eqb}
+use lib.Dec.{eqb, ltb}
 use lib.ListN.{length, getD}
 
 -- the first of the n places from i on at which the test holds, or 0
@@ -18,6 +18,10 @@ firstIn test i e = firstFrom test i (e - i)
 -- a place was found
 abbrev pub found : ℕ → Bool
 found a = not (eqb a 0)
+
+-- a number outside 1 to high
+abbrev pub outside : ℕ → ℕ → Bool
+outside high v = eqb v 0 || ltb high v
 
 -- what stands at a place of a list
 abbrev pub at : List ℕ → ℕ → ℕ

@@ -16,6 +16,7 @@ ghost use Rattle.dealing.specs.Deal.{dealFrom};
 ghost use Rattle.dealing.specs.Dealt.{dealing, dealtInto};
 ghost use Rattle.joining.specs.Joined.{joining, joinedInto};
 ghost use Rattle.salvage.specs.Pile.{salvaging, salvagedPile, salvagedList};
+ghost use Rattle.adding.specs.Adding.{adding, sumInto};
 ghost use Rattle.packing.specs.Key.{packing, unpacking, unpackedInto};
 ghost use Rattle.key.specs.Dealt.{keyDeal};
 ghost use Rattle.key.specs.Joined.{joiningKey, joinedKeyInto};
@@ -239,4 +240,13 @@ pub extern "C" fn titmeadow_join_key(pile: &[u8], key: &mut [u8]) -> Said
     ensures leaves { λ r. ⌜ now (key .exit) ≡ joinedKeyInto (now (pile .entry)) (now (key .entry)) ⌝ }
 {
     said_of(key::join_key(pile, key))
+}
+
+// The sum of two blocks under a new deal number into the front of `block`; the result is 1, a number of blocks.
+#[no_mangle]
+pub extern "C" fn titmeadow_add(one: &[u8], two: &[u8], deal: usize, block: &mut [u8]) -> Said
+    ensures says { λ r. ⌜ r ≡ said (adding (now (one .entry)) (now (two .entry)) deal (length (now (block .entry)))) ⌝ }
+    ensures leaves { λ r. ⌜ now (block .exit) ≡ sumInto (now (one .entry)) (now (two .entry)) deal (now (block .entry)) ⌝ }
+{
+    said_of(adding::add(one, two, deal, block))
 }

@@ -12,8 +12,9 @@ use Rattle.answer.specs.Checks.{Line}
 use Rattle.answer.proofs.SaysLaws.{said, Says, whole, passes, speaks, silent}
 use Rattle.lists.proofs.SomeLaws.{found-at, found-none}
 use Rattle.dealing.specs.declared.Asked.{Asked}
-use Rattle.dealing.specs.Dealt.{badNumber, badHolder, badWidth, badSecret, badCount, badRandom, inputLines}
-use Rattle.dealing.proofs.InputLaws.{in-range}
+use Rattle.block.specs.Deals.{badNumber}
+use Rattle.dealing.specs.Dealt.{badHolder, badWidth, badSecret, badCount, badRandom, inputLines}
+use Rattle.lists.proofs.RangeLaws.{in-range}
 use Rattle.dealing.proofs.checks.check_inputs.Statement.{statement}
 use Rattle.dealing.proofs.checks.check_inputs.Tie as tie
 

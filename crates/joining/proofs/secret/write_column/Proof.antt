@@ -11,7 +11,7 @@ use Rattle.pile.specs.Blocks.{In}
 use Rattle.joining.specs.Pile.{placeOf, valueOf, valueAt}
 use Rattle.joining.proofs.PileLaws.{pieces-in, width-in}
 use Rattle.joining.proofs.TableLaws.{place-next, place-most}
-use Rattle.joining.proofs.SecretLaws.{over-on}
+use Rattle.lists.proofs.OverLaws.{over-on}
 use Rattle.joining.proofs.secret.write_column.Statement.{statement}
 use Rattle.joining.proofs.secret.write_column.Tie as tie
 

@@ -11,7 +11,7 @@ use Rattle.field.specs.Joined.{joined}
 use Rattle.field.specs.Secret.{column, secretOf}
 use Rattle.joining.specs.Pile.{valueAt}
 use Rattle.joining.proofs.PileLaws.{pieces-in}
-use Rattle.joining.proofs.SecretLaws.{over-on}
+use Rattle.lists.proofs.OverLaws.{over-on}
 use Rattle.joining.proofs.secret.write_secret.Statement.{statement}
 use Rattle.joining.proofs.secret.write_secret.Tie as tie
 

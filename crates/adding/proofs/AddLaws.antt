@@ -1,0 +1,96 @@
+-- The lines of an addition, one by one: what two blocks have on which all pass, and that they pass on two blocks that have it.
+-- Assumes nothing.
+use Prim.Native.Nat.{ℕ, _≤_}
+use mathlib.Core.Path.{_≡_, sym, _∙_}
+use mathlib.Core.Bool.{true, false, not}
+use mathlib.Core.Logic.{_≢_}
+use mathlib.Core.List.{List}
+use native.Mathlib.Omega.{arith}
+use lib.Dec.{eqb}
+use lib.ListN.{length}
+use borrow.Author.Tests.{eqb-true, eqb-false, eq-eqb, ne-eqb, not-false, ltb-false, le-ltb}
+use Rattle.lists.specs.Places.{found}
+use Rattle.lists.proofs.Truth.{neither}
+use Rattle.lists.proofs.RangeLaws.{in-range, range-in}
+use Rattle.lists.proofs.FirstLaws.{none-in, none-found, found-none, first-all}
+use Rattle.answer.specs.Outcome.{done}
+use Rattle.answer.specs.Lent.{noRoom}
+use Rattle.answer.specs.Laws.{Passed}
+use Rattle.answer.proofs.CheckLaws.{passed, passed-none, passed-one, passed-append, passed-both, done-passed, passed-done}
+use Rattle.block.specs.Words.{wordAt}
+use Rattle.block.specs.Deals.{badNumber}
+use Rattle.block.specs.Open.{TrueBlock}
+use Rattle.block.proofs.Laws.{true-means}
+use Rattle.adding.specs.Sum.{differ, unlikeAt}
+use Rattle.adding.specs.Adding.{oneLines, addLines, adding}
+use Rattle.adding.specs.Laws.{Addable}
+
+-- ---- 13, 15, 16 and 17 of one block
+pub lines-true : (b : List ℕ) (a : ℕ) → Passed (oneLines b a) → (length b ≡ 512) × TrueBlock b
+lines-true b a p =
+    let h = passed p in
+    let whole : length b ≡ 512 = eqb-true (length b) 512 (not-false _ (h .0)) in
+    (whole, true-means b a .1 (omega arith) (h .1))
+
+true-lines : (b : List ℕ) (a : ℕ) → length b ≡ 512 → TrueBlock b → Passed (oneLines b a)
+true-lines b a e t = passed-one (rw (eq-eqb (length b) 512 e)) (true-means b a .0 t)
+
+-- ---- 24
+not-unlike : (one two : List ℕ) → found (unlikeAt one two) ≡ false → (i : ℕ) → 3 ≤ i → i ≤ 7 → wordAt one i ≡ wordAt two i
+unfolding unlikeAt
+not-unlike one two e i l h =
+    eqb-true (wordAt one i) (wordAt two i) (not-false _ (none-in (differ one two) 3 8 (omega arith) (none-found _ e) i l (omega arith)))
+
+not-found : (one two : List ℕ) → ((i : ℕ) → 3 ≤ i → i ≤ 7 → wordAt one i ≡ wordAt two i) → found (unlikeAt one two) ≡ false
+unfolding unlikeAt
+not-found one two h = found-none (first-all (differ one two) 3 8 (λ i l m. rw (eq-eqb (wordAt one i) (wordAt two i) (h i l (omega arith)))))
+
+-- two words that were read differ, or agree
+pub words-differ : {x y u v : ℕ} → x ≡ u → y ≡ v → x ≢ y → not (eqb u v) ≡ true
+words-differ {x} {y} {u} {v} e f h = rw (ne-eqb u v (λ g. h (e ∙ g ∙ sym f)))
+
+pub words-agree : {x y u v : ℕ} → x ≡ u → y ≡ v → x ≡ y → not (eqb u v) ≡ false
+words-agree {x} {y} {u} {v} e f h = rw (eq-eqb u v (sym e ∙ h ∙ f))
+
+-- ---- all of them
+module _ (one two : List ℕ) (new room : ℕ) where
+  pub addable : (n : ℕ) → adding one two new room ≡ done n → Addable one two new room × (n ≡ 1)
+  unfolding adding addLines badNumber noRoom
+  addable n e =
+      let d = done-passed (addLines one two new room) (done 1) n e in
+      let a = passed-append (oneLines one 1) (d .0) in
+      let b = passed-append (oneLines two 2) (a .1) in
+      let first = lines-true one 1 (a .0) in
+      let second = lines-true two 2 (b .0) in
+      let p = passed (b .1) in
+      let q = passed (p .1) in
+      let r = passed (q .1) in
+      let s = passed (r .1) in
+      let other = neither (eqb new (wordAt one 2)) (eqb new (wordAt two 2)) (r .0) in
+      let end = d .1 in
+      let is : 1 ≡ n = cc in (
+        record {
+          whole-one = first .0;
+          whole-two = second .0;
+          true-one = first .1;
+          true-two = second .1;
+          alike = not-unlike one two (p .0);
+          number-in = in-range 32748 new (q .0);
+          unlike-one = eqb-false new (wordAt one 2) (other .0);
+          unlike-two = eqb-false new (wordAt two 2) (other .1);
+          fits = ltb-false room 512 (s .0);
+        },
+        sym is,
+      )
+
+  pub of-addable : Addable one two new room → adding one two new room ≡ done 1
+  unfolding adding addLines badNumber noRoom
+  of-addable y =
+      passed-done (addLines one two new room) (done 1)
+      (passed-both (oneLines one 1) (true-lines one 1 (y .whole-one) (y .true-one))
+      (passed-both (oneLines two 2) (true-lines two 2 (y .whole-two) (y .true-two))
+      (passed-one (not-found one two (y .alike))
+      (passed-one (range-in 32748 new (y .number-in .0) (y .number-in .1))
+      (passed-one (rw (ne-eqb new (wordAt one 2) (y .unlike-one), ne-eqb new (wordAt two 2) (y .unlike-two)))
+      (passed-one (le-ltb room 512 (y .fits))
+      passed-none))))))
