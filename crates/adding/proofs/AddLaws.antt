@@ -1,9 +1,8 @@
 -- The lines of an addition, one by one: what two blocks have on which all pass, and that they pass on two blocks that have it.
 -- Assumes nothing.
 use Prim.Native.Nat.{ℕ, _≤_}
-use mathlib.Core.Path.{_≡_, sym, _∙_}
-use mathlib.Core.Bool.{true, false, not}
-use mathlib.Core.Logic.{_≢_}
+use mathlib.Core.Path.{_≡_, sym}
+use mathlib.Core.Bool.{false}
 use mathlib.Core.List.{List}
 use native.Mathlib.Omega.{arith}
 use lib.Dec.{eqb}
@@ -44,13 +43,6 @@ not-unlike one two e i l h =
 not-found : (one two : List ℕ) → ((i : ℕ) → 3 ≤ i → i ≤ 7 → wordAt one i ≡ wordAt two i) → found (unlikeAt one two) ≡ false
 unfolding unlikeAt
 not-found one two h = found-none (first-all (differ one two) 3 8 (λ i l m. rw (eq-eqb (wordAt one i) (wordAt two i) (h i l (omega arith)))))
-
--- two words that were read differ, or agree
-pub words-differ : {x y u v : ℕ} → x ≡ u → y ≡ v → x ≢ y → not (eqb u v) ≡ true
-words-differ {x} {y} {u} {v} e f h = rw (ne-eqb u v (λ g. h (e ∙ g ∙ sym f)))
-
-pub words-agree : {x y u v : ℕ} → x ≡ u → y ≡ v → x ≡ y → not (eqb u v) ≡ false
-words-agree {x} {y} {u} {v} e f h = rw (eq-eqb u v (sym e ∙ h ∙ f))
 
 -- ---- all of them
 module _ (one two : List ℕ) (new room : ℕ) where

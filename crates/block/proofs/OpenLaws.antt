@@ -14,7 +14,6 @@ use Rattle.answer.specs.declared.Answer.{Answer}
 use Rattle.answer.specs.declared.Answer.the-variants.{Done, Refused as Answer-Refused}
 use Rattle.answer.specs.Outcome.{Outcome, done, refused, number, outcome}
 use Rattle.answer.specs.Checks.{Line, firstFail}
-use Rattle.lists.specs.Places.{found}
 use Rattle.lists.specs.Some.{some}
 use Rattle.lists.specs.Laws.{IsFirst}
 use Rattle.answer.specs.Laws.{Passed, By}

@@ -16,7 +16,6 @@ use Rattle.answer.proofs.CheckLaws.{append-lines, done-passed, passed-done, pas
 use Rattle.answer.proofs.LentLaws as lent
 use Rattle.prime.specs.Prime.{Below}
 use Rattle.field.specs.Pieces.{Random}
-use Rattle.planning.specs.Groups as planning
 use Rattle.lists.specs.Some.{_∈_}
 use Rattle.planning.specs.Planned.{planLines, planned}
 use Rattle.block.specs.Words.{bytesOf}

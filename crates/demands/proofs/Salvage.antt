@@ -12,7 +12,6 @@ use Rattle.block.specs.Open.{byOutcome}
 use Rattle.dealing.proofs.MadeLaws.{made-in-range}
 use Rattle.pile.specs.Blocks.{blocks, In, restFrom}
 use Rattle.pile.proofs.PileLaws.{rest-long}
-use Rattle.joining.specs.Joined.{joining}
 use Rattle.salvage.specs.Pile.{mendedPile, differing, rebuiltWords, places, salvageLines, salvaging, salvagedPile, salvagedList}
 use Rattle.salvage.proofs.SayLaws.{says-done}
 use Rattle.salvage.proofs.Laws.{restored-pile}

@@ -6,7 +6,7 @@ use mathlib.Core.Bool.{Bool, true, false}
 use mathlib.Core.Logic.{_↔_}
 use mathlib.Core.List.{List, _++_}
 use lib.ListN.{length, take, drop}
-use Rattle.answer.specs.Outcome.{done, refused}
+use Rattle.answer.specs.Outcome.{done}
 use Rattle.lists.specs.Places.{at}
 use Rattle.answer.specs.Laws.{Passed}
 use Rattle.field.specs.Poly.{value, piece, One}

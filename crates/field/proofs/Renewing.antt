@@ -7,7 +7,7 @@ use Prim.Native.Nat.{ℕ, suc, _-_, _*_}
 use native.Mathlib.Omega.{arith}
 use native.Mathlib.Nat.{suc-inj, suc-ne-zero}
 use lib.ListN.{length, length-replicate}
-use Rattle.prime.specs.Prime.{p, Below, minus}
+use Rattle.prime.specs.Prime.{Below, minus}
 use Rattle.prime.proofs.Mod.{minus-below}
 use Rattle.field.specs.Pieces.{values, Random, Paired}
 use Rattle.field.specs.Added.{added}

@@ -12,7 +12,6 @@ use Rattle.field.specs.Hiding.{Matched, Hidden, Gives}
 use Rattle.field.specs.Pieces.{values, Random, Paired, GivesValues}
 use Rattle.field.specs.Joined.{joined}
 use Rattle.field.specs.Differences.{rows, byDifferences}
-use Rattle.prime.specs.Inverse.{inverse}
 use Rattle.field.specs.Lagrange.{Weights, weightsOf}
 use Rattle.field.specs.Added.{added}
 use Rattle.field.specs.Secret.{column, secretOf}

@@ -1,11 +1,8 @@
 -- What an unmixed pile says of its own deal and of its blocks' pieces. Assumes nothing.
-use mathlib.Core.Path.{_≡_, sym, ap, _∙_}
-use mathlib.Core.Bool.{true, false}
+use mathlib.Core.Path.{_≡_, ap}
 use mathlib.Core.List.{List}
 use Prim.Native.Nat.{ℕ, _≤_}
 use native.Mathlib.Omega.{arith}
-use lib.Dec.{eqb}
-use borrow.Author.Tests.{eq-eqb, ne-eqb}
 use Rattle.block.specs.declared.deal.DealWords.{DealWords}
 use Rattle.block.specs.Laws.{Ranges}
 use Rattle.block.specs.Layout.{labelOf}
@@ -15,13 +12,6 @@ use Rattle.joining.specs.Pile.{ownBlock, ownDeal, ownPieces, ownWidth, p
 use Rattle.joining.specs.Checks.{mixedAt}
 use Rattle.joining.specs.Inner.{Unmixed}
 use Rattle.joining.proofs.HeapLaws.{own-in, none-strays}
-
--- a test of two numbers, by what they are
-pub equal : {x y u v : ℕ} → x ≡ u → y ≡ v → x ≡ y → eqb u v ≡ true
-equal {u = u} {v = v} p q e = eq-eqb u v (sym p ∙ e ∙ q)
-
-pub other : {x y u v : ℕ} → x ≡ u → y ≡ v → (x ≡ y → ⊥) → eqb u v ≡ false
-other {u = u} {v = v} p q f = ne-eqb u v (λ e. f (p ∙ e ∙ sym q))
 
 -- where MIXED passes, every block is of the pile's own deal
 pub unmixed : (pile : List ℕ) → 1 ≤ blocks pile → TrueBlocks pile → mixedAt pile ≡ 0 → Unmixed pile

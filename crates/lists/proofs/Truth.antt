@@ -5,7 +5,7 @@ use mathlib.Core.Bool.{Bool, true, false, not, _&&_, _||_, false≢true}
 use mathlib.Core.Logic.{_⊎_, inl, inr, ⊎-elim, _≢_}
 use Prim.Native.Nat.{ℕ}
 use lib.Dec.{eqb}
-use borrow.Author.Tests.{eqb-true, eqb-false}
+use borrow.Author.Tests.{eqb-true, eqb-false, eq-eqb, ne-eqb}
 
 pub never : {b : Bool} → b ≡ false → b ≡ true → ⊥
 never e t = false≢true (sym e ∙ t)
@@ -64,3 +64,10 @@ and-none false = refl
 pub and-all : (x : Bool) → (x && true) ≡ x
 and-all true = refl
 and-all false = refl
+
+-- two numbers that were read: their test, by what they are
+pub same-read : {x y u v : ℕ} → x ≡ u → y ≡ v → x ≡ y → eqb u v ≡ true
+same-read {u = u} {v = v} p q e = eq-eqb u v (sym p ∙ e ∙ q)
+
+pub other-read : {x y u v : ℕ} → x ≡ u → y ≡ v → x ≢ y → eqb u v ≡ false
+other-read {u = u} {v = v} p q f = ne-eqb u v (λ e. f (p ∙ e ∙ sym q))

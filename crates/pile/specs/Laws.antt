@@ -5,7 +5,7 @@ use mathlib.Core.Path.{_≡_}
 use mathlib.Core.List.{List}
 use lib.ListN.{length, getD, drop}
 use Rattle.answer.specs.Laws.{Passed}
-use Rattle.pile.specs.Blocks.{blocks, In, restFrom, word, TrueBlocks}
+use Rattle.pile.specs.Blocks.{In, restFrom, word, TrueBlocks}
 use Rattle.pile.specs.Lines.{everyBlock}
 
 -- The lines of all blocks pass exactly where every block is true.

@@ -6,7 +6,7 @@ use native.Mathlib.Omega.{arith}
 use lib.ListN.{getD}
 use borrow.Author.Tests.{ltb-false}
 use Rattle.lists.proofs.ThoseLaws.{at-in}
-use Rattle.answer.specs.Outcome.{Outcome, done, number}
+use Rattle.answer.specs.Outcome.{Outcome, done}
 use Rattle.answer.specs.Laws.{Passed}
 use Rattle.answer.proofs.CheckLaws.{passed, passed-append, done-passed}
 use Rattle.planning.specs.Groups.{groups, pieceCount, rowsOf}

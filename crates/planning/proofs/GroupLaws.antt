@@ -11,7 +11,7 @@ use lib.Dec.{eqb}
 use lib.ListN.{length, getD, drop}
 use lib.Pow.{pow-mono}
 use lib.Seq.{drop-cons, drop-length}
-use Rattle.lists.specs.Some.{_∈_, some, each}
+use Rattle.lists.specs.Some.{_∈_, some}
 use Rattle.lists.proofs.Truth.{never, decided, isn't, both, and-both, or-cases, or-l, or-r, not-so, so-not}
 use Rattle.lists.proofs.EachLaws.{each-at, each-of, each-same}
 use Rattle.lists.proofs.SomeLaws.{some-in, in-some}

@@ -9,7 +9,6 @@ use lib.ListN.{length}
 use Rattle.answer.specs.Outcome.{Outcome, done, refused, number}
 use Rattle.answer.proofs.OneLaws.{refusal-one}
 use Rattle.answer.proofs.CheckLaws.{never-both}
-use Rattle.block.specs.declared.Opened.the-variants as opens
 use Rattle.block.specs.Layout.{frontWords}
 use Rattle.block.specs.Open.{opening, wordsOf, valueBytes, valueStart}
 use Rattle.block.proofs.OneLaws.{words-one}

@@ -11,7 +11,7 @@ use Rattle.answer.specs.Outcome.{refused, number}
 use Rattle.block.specs.Open.{above, opening, valueBytes, valueStart}
 use Rattle.pile.specs.Blocks.{blocks, restFrom}
 use Rattle.reader.specs.declared.Seen.{Seen}
-use Rattle.reader.specs.Seeing.{told, ended, sight, counted, seeing, after, valuesOf, valuesFrom, placeAfter, answerOf, reading}
+use Rattle.reader.specs.Seeing.{told, ended, sight, counted, seeing, after, valuesOf, valuesFrom, placeAfter, answerOf}
 
 -- Equal outcomes, equal answers: the promise `sight r ≡ ..` leaves one possible answer.
 abbrev pub SightOne : Type 0

@@ -1,12 +1,13 @@
 -- `adding::first_unlike` meets its contract. The invariant: the first word that differs is still to be found from word i on.
 -- Assumes nothing.
-use mathlib.Core.Path.{_≡_, refl, sym, _∙_}
+use mathlib.Core.Path.{_≡_, refl, sym, ap, _∙_}
+use mathlib.Core.Bool.{not}
 use Prim.Native.Nat.{_-_, _≤_}
 use native.Mathlib.Omega.{arith}
 use Rattle.lists.specs.Places.{firstIn}
 use Rattle.lists.proofs.FirstLaws.{first-hit, first-miss, first-none}
 use Rattle.adding.specs.Sum.{differ, unlikeAt}
-use Rattle.adding.proofs.AddLaws.{words-differ, words-agree}
+use Rattle.lists.proofs.Truth.{same-read, other-read}
 use Rattle.adding.proofs.first_unlike.Statement.{statement}
 use Rattle.adding.proofs.first_unlike.Tie as tie
 
@@ -32,7 +33,7 @@ returns c =
     let l = w .before .before .before in
     let a = l .before .before .before .args in
     sym (l .loop .inv .2 ∙ first-hit (differ (a .one .now) (a .two .now)) (l .loop .i) 8 (w .before .before .loop-test .taken)
-    (words-differ (w .before .word .ensures) (w .word2 .ensures) (c .if1 .taken)))
+    (ap not (other-read (w .before .word .ensures) (w .word2 .ensures) (c .if1 .taken))))
 
 loop-again : tie.Need-loop-again Inv-loop μ-loop
 loop-again c =
@@ -42,7 +43,7 @@ loop-again c =
       omega arith,
       omega arith,
       l .loop .inv .2 ∙ first-miss (differ (a .one .now) (a .two .now)) (l .loop .i) 8 (w .before .before .loop-test .taken)
-          (words-agree (w .before .word .ensures) (w .word2 .ensures) (c .if1 .left)),
+          (ap not (same-read (w .before .word .ensures) (w .word2 .ensures) (c .if1 .left))),
     )
 
 returns-2 : tie.Need-returns-2 Inv-loop μ-loop

@@ -9,7 +9,8 @@ use lib.Dec.{eqb}
 use Rattle.lists.specs.Places.{firstIn}
 use Rattle.lists.proofs.FirstLaws.{first-hit, first-miss, first-none}
 use Rattle.joining.specs.Pile.{valueOf, differIn}
-use Rattle.joining.proofs.PileLaws.{equal, other, width-in}
+use Rattle.lists.proofs.Truth.{same-read, other-read}
+use Rattle.joining.proofs.PileLaws.{width-in}
 use Rattle.joining.proofs.checks.differ_in.Statement.{statement}
 use Rattle.joining.proofs.checks.differ_in.Tie as tie
 
@@ -40,7 +41,7 @@ returns c =
     let l = c .before .before .before .before in
     let a = l .before .before .args in
     sym (l .loop .inv .2 ∙ first-hit (differ (a .pile .now) (a .a) (a .b)) (l .loop .i) _ (c .before .before .before .loop-test .taken)
-    (ap not (other (c .before .before .word .ensures) (c .before .word2 .ensures) (c .if1 .taken))))
+    (ap not (other-read (c .before .before .word .ensures) (c .before .word2 .ensures) (c .if1 .taken))))
 
 loop-again : tie.Need-loop-again Inv-loop μ-loop
 loop-again c =
@@ -49,7 +50,7 @@ loop-again c =
       omega arith,
       omega arith,
       l .loop .inv .2 ∙ first-miss (differ (a .pile .now) (a .a) (a .b)) (l .loop .i) _ (c .before .before .before .loop-test .taken)
-          (ap not (equal (c .before .before .word .ensures) (c .before .word2 .ensures) (c .if1 .left))),
+          (ap not (same-read (c .before .before .word .ensures) (c .before .word2 .ensures) (c .if1 .left))),
     )
 
 returns-2 : tie.Need-returns-2 Inv-loop μ-loop

@@ -7,7 +7,6 @@ use native.Mathlib.Omega.{arith}
 use lib.ListN.{length}
 use borrow.Author.Needs.{needs}
 use Rattle.planning.specs.Sets.{inside}
-use Rattle.lists.specs.Some.{some}
 use Rattle.planning.specs.Groups.{authorised}
 use Rattle.planning.proofs.LoopLaws.{SomeAhead, some-start, some-here, some-next, some-end}
 use Rattle.planning.proofs.sets.authorised.Statement.{statement}
