@@ -5,7 +5,7 @@
 #include <stdlib.h>
 #include "titmeadow.h"
 
-enum { NUMBERS = 3, LISTS = 4 };
+enum { NUMBERS = 4, LISTS = 4 };
 
 /* what is lent has as many bytes as are read, and no more */
 struct list {
@@ -36,8 +36,8 @@ static titmeadow_answer answer_key(uint64_t call, const uint64_t *n, const struc
     case 7:
         return titmeadow_unpack(l[0].at, l[0].size / 2, out.at, out.size);
     case 8:
-        return titmeadow_deal_key(n[0], l[0].at, l[0].size / 2, l[1].at, l[1].size / 2, n[1], n[2], l[2].at, l[2].size, l[3].at, l[3].size / 2,
-                                  out.at, out.size);
+        return titmeadow_deal_key(n[0], l[0].at, l[0].size / 2, l[1].at, l[1].size / 2, n[1], n[2], n[3], l[2].at, l[2].size, l[3].at,
+                                  l[3].size / 2, out.at, out.size);
     case 9:
         return titmeadow_join_key(l[0].at, l[0].size, out.at, out.size);
     }
@@ -49,8 +49,8 @@ static titmeadow_answer answer(uint64_t call, const uint64_t *n, const struct li
     case 1:
         return titmeadow_plan(n[0], l[0].at, l[0].size / 2, l[1].at, l[1].size / 2, out.at);
     case 2:
-        return titmeadow_deal(n[0], l[0].at, l[0].size / 2, l[1].at, l[1].size / 2, n[1], n[2], l[2].at, l[2].size / 2, l[3].at, l[3].size / 2,
-                              out.at, out.size);
+        return titmeadow_deal(n[0], l[0].at, l[0].size / 2, l[1].at, l[1].size / 2, n[1], n[2], n[3], l[2].at, l[2].size / 2, l[3].at,
+                              l[3].size / 2, out.at, out.size);
     case 3:
         return titmeadow_join(l[0].at, l[0].size, out.at, out.size / 2);
     case 4:
@@ -60,7 +60,7 @@ static titmeadow_answer answer(uint64_t call, const uint64_t *n, const struct li
     case 10: /* the list, of n[0] numbers, and the pile behind it */
         return titmeadow_salvage((uint8_t *)out.at + 2 * n[0], out.size - 2 * n[0], out.at, n[0]);
     case 11:
-        return titmeadow_add(l[0].at, l[0].size, l[1].at, l[1].size, n[0], out.at, out.size);
+        return titmeadow_add(l[0].at, l[0].size, l[1].at, l[1].size, n[0], n[1], out.at, out.size);
     }
     return answer_key(call, n, l, out);
 }

@@ -1,7 +1,7 @@
 /* Deals to four custodians, damages a card and joins: what the unit does with a good pile, a short one, a dirty one and a torn one. Salvages the
  * dirty one, and renews the cards. Then splits a key among the four and restores it.
  *   rt staticlib titmeadow && cc -I include examples/deal_damage_join.c target/staticlib/libtitmeadow.a -o target/example && target/example
- * It prints its sixteen answers and ends with status 0 where they are those that SCOPE gives. */
+ * It prints its eighteen answers and ends with status 0 where they are those that SCOPE gives. */
 #include <stdio.h>
 #include <string.h>
 #include "titmeadow.h"
@@ -11,20 +11,20 @@ static const uint16_t forbidden[] = {1 + 8};
 
 /* A deal by that policy, of one word. */
 struct deal {
-    size_t number;
+    size_t number, year;
     uint16_t secret[1], randomness[2];
 };
-static const struct deal first_deal = {7, {1234}, {5, 7}};
+static const struct deal first_deal = {7, 2026, {1234}, {5, 7}};
 /* A deal of zeros, which renews the cards. A unit draws its randomness even, and shows its cards to nobody; this one is for show. */
-static const struct deal zero_deal = {8, {0}, {32748, 1}};
+static const struct deal zero_deal = {8, 2026, {0}, {32748, 1}};
 
 /* The cards of two holders, one after the other; how many bytes they have. */
 static size_t cards_of(const struct deal *deal, size_t first, size_t second, uint8_t *pile, size_t room) {
     size_t length = 0;
     const size_t holders[] = {first, second};
     for (int i = 0; i < 2; i++) {
-        titmeadow_answer dealt = titmeadow_deal(4, required, 3, forbidden, 1, deal->number, holders[i], deal->secret, 1, deal->randomness, 2,
-                                                pile + length, room - length);
+        titmeadow_answer dealt = titmeadow_deal(4, required, 3, forbidden, 1, deal->number, deal->year, holders[i], deal->secret, 1,
+                                                deal->randomness, 2, pile + length, room - length);
         if (dealt.number != 0)
             return 0;
         length += TITMEADOW_BLOCK_BYTES * dealt.a;
@@ -34,14 +34,15 @@ static size_t cards_of(const struct deal *deal, size_t first, size_t second, uin
 
 static size_t cards(size_t first, size_t second, uint8_t *pile, size_t room) { return cards_of(&first_deal, first, second, pile, room); }
 
-/* The cards of two holders renewed: each block added to its fellow of the deal of zeros, under a new number; how many bytes they have. */
-static size_t renewed(size_t first, size_t second, size_t number, uint8_t *pile, size_t room) {
+/* The cards of two holders renewed: each block added to its fellow of the deal of zeros, under number 7 once more, in the year after; how many bytes
+ * they have. */
+static size_t renewed(size_t first, size_t second, uint8_t *pile, size_t room) {
     static uint8_t old[4 * TITMEADOW_BLOCK_BYTES], zeros[sizeof old];
     const size_t length = cards(first, second, old, sizeof old);
     if (length == 0 || length > room || cards_of(&zero_deal, first, second, zeros, sizeof zeros) != length)
         return 0;
     for (size_t at = 0; at < length; at += TITMEADOW_BLOCK_BYTES)
-        if (titmeadow_add(old + at, TITMEADOW_BLOCK_BYTES, zeros + at, TITMEADOW_BLOCK_BYTES, number, pile + at, room - at).number != 0)
+        if (titmeadow_add(old + at, TITMEADOW_BLOCK_BYTES, zeros + at, TITMEADOW_BLOCK_BYTES, 7, 2027, pile + at, room - at).number != 0)
             return 0;
     return length;
 }
@@ -54,7 +55,7 @@ static size_t key_cards(size_t first, size_t second, const uint8_t key[TITMEADOW
     for (uint16_t i = 0; i < 2 * TITMEADOW_KEY_WORDS; i++)
         many[i] = 1000 * (i + 1);
     for (int i = 0; i < 2; i++) {
-        titmeadow_answer dealt = titmeadow_deal_key(4, required, 3, forbidden, 1, 8, holders[i], key, TITMEADOW_KEY_BYTES, many,
+        titmeadow_answer dealt = titmeadow_deal_key(4, required, 3, forbidden, 1, 8, 2026, holders[i], key, TITMEADOW_KEY_BYTES, many,
                                                     2 * TITMEADOW_KEY_WORDS, pile + length, room - length);
         if (dealt.number != 0)
             return 0;
@@ -77,6 +78,8 @@ int main(void) {
     good &= is("holders 1 and 2", titmeadow_join(pile, length, joined, TITMEADOW_SECRET_MOST), 0, 1, 0) && joined[0] == 1234;
 
     good &= is("block 1", titmeadow_open(pile, length, head), 0, 7, 0) && head[0] == 1987 && head[2] == 1 && head[6] == 3;
+    const uint8_t *year = pile + 2 * (TITMEADOW_YEAR_WORD - 1); /* words 1 to 7 are opened; this one is read off the block */
+    good &= year[0] == 2026 / 256 && year[1] == 2026 % 256;
     good &= is("511 bytes of it", titmeadow_open(pile, TITMEADOW_BLOCK_BYTES - 1, head), TITMEADOW_TORN, 0, 0) && head[6] == 3;
 
     length = cards(1, 4, pile, sizeof pile);
@@ -92,15 +95,19 @@ int main(void) {
     good &= is("and joined", titmeadow_join(pile, length, joined, TITMEADOW_SECRET_MOST), 0, 1, 0) && joined[0] == 1234;
 
     joined[0] = 0;
-    length = renewed(1, 2, 9, pile, sizeof pile);
+    length = renewed(1, 2, pile, sizeof pile);
     good &= is("new cards of 1 and 2", titmeadow_join(pile, length, joined, TITMEADOW_SECRET_MOST), 0, 1, 0) && joined[0] == 1234;
-    length = renewed(1, 4, 9, pile, sizeof pile);
+    length = renewed(1, 4, pile, sizeof pile);
     good &= is("new cards of 1 and 4", titmeadow_join(pile, length, joined, TITMEADOW_SECRET_MOST), TITMEADOW_SHORT, 2, 3);
-    length = renewed(1, 2, 9, pile, sizeof pile);
+    length = renewed(1, 2, pile, sizeof pile);
     cards(1, 2, pile, TITMEADOW_BLOCK_BYTES); /* holder 1's old card over the new one; for 2's there is no room */
     good &= is("an old one and a new one", titmeadow_join(pile, length, joined, TITMEADOW_SECRET_MOST), TITMEADOW_MIXED, 1, 0);
-    good &= is("the old number again", titmeadow_add(pile, TITMEADOW_BLOCK_BYTES, pile, TITMEADOW_BLOCK_BYTES, 7, pile + length,
-                                                     sizeof pile - length), TITMEADOW_DEAL, 0, 0);
+    /* that old card added to itself, into the room behind the pile */
+    const size_t numbers[][2] = {{7, 2026}, {7, 2027}, {7, 32749}}, said[][2] = {{TITMEADOW_DEAL, 0}, {0, 1}, {TITMEADOW_YEAR, 0}};
+    const char *const whats[] = {"its number and year again", "its number in another year", "a year above 32748"};
+    for (int i = 0; i < 3; i++)
+        good &= is(whats[i], titmeadow_add(pile, TITMEADOW_BLOCK_BYTES, pile, TITMEADOW_BLOCK_BYTES, numbers[i][0], numbers[i][1], pile + length,
+                                           sizeof pile - length), said[i][0], said[i][1], 0);
 
     const uint8_t key[] = "fifteen letters"; /* and the zero behind them */
     uint8_t restored[TITMEADOW_KEY_BYTES] = {0};

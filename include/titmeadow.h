@@ -19,12 +19,13 @@
 #define TITMEADOW_PEOPLE_MOST 8   /* people of a policy */
 #define TITMEADOW_SETS_MOST 256   /* sets in a list */
 #define TITMEADOW_PIECES_MOST 70  /* k */
-#define TITMEADOW_WORD_MOST 32748 /* a word of a secret, of the randomness or of a block, and a deal number */
+#define TITMEADOW_WORD_MOST 32748 /* a word of a secret, of the randomness or of a block, a deal number, and a year */
 #define TITMEADOW_SECRET_MOST 16  /* w, the words of a secret */
 #define TITMEADOW_RANDOM_MOST (TITMEADOW_SECRET_MOST * (TITMEADOW_PIECES_MOST - 1)) /* w(k - 1) */
 #define TITMEADOW_BLOCK_BYTES 512
 #define TITMEADOW_BLOCK_WORDS 256 /* two bytes each, the high one in front */
 #define TITMEADOW_HEAD_WORDS 7    /* mark, deal number, holder, people, k, w, piece */
+#define TITMEADOW_YEAR_WORD 24    /* the word of a block, from 1, that has the year of the deal: its bytes 47 and 48, from 1, the high one in front */
 #define TITMEADOW_CARD_MOST 35    /* blocks on a card; titmeadow_deal says why */
 #define TITMEADOW_PILE_MOST 560   /* blocks in a pile */
 #define TITMEADOW_KEY_BYTES 16    /* a key has so many, not one more or less */
@@ -55,7 +56,7 @@ enum titmeadow_refusal {
     TITMEADOW_OPEN = 5,      /* the empty set is required; a: its first place */
     TITMEADOW_CLASH = 6,     /* a required set lies inside a forbidden one; a: the first such set, b: the first forbidden set around it */
     TITMEADOW_WIDE = 7,      /* there are over 70 maximal groups, which 8 people never have */
-    TITMEADOW_DEAL = 8,      /* the deal number is 0 or exceeds 32748, or is that of one of the blocks that are added */
+    TITMEADOW_DEAL = 8,      /* the deal number is 0 or exceeds 32748; number and year are both those of one of the blocks that are added */
     TITMEADOW_HOLDER = 9,    /* the holder is 0 or exceeds the number of people */
     TITMEADOW_SECRET = 10,   /* no words, or more than 16, or a key not of 16 bytes (a = 0); else some word exceeds 32748; a: the first such word */
     TITMEADOW_RANDOM = 11,   /* not w(k - 1) words (a = 0); else some word exceeds 32748; a: the first such word */
@@ -65,13 +66,14 @@ enum titmeadow_refusal {
     TITMEADOW_UNREAD = 15,   /* some word of a block exceeds 32748; a: the block, b: the first such word */
     TITMEADOW_CHECK = 16,    /* word 256 of a block is not its check; a: the block */
     TITMEADOW_HEADER = 17,   /* some word from 1 to 255 of a block is not as the layout has it; a: the block, b: the first such word */
-    TITMEADOW_MIXED = 18,    /* blocks differ in word 2, 4, 5 or 6; a: the first outside the largest heap of blocks alike in these, of equal heaps the earliest */
+    TITMEADOW_MIXED = 18,    /* blocks differ in word 2, 4, 5, 6 or 24; a: the first outside the largest heap of blocks alike in these, of equal heaps the earliest */
     TITMEADOW_CONFLICT = 19, /* a block has an earlier one's piece, and other values; a: the first such block, b: the first such earlier one */
     TITMEADOW_SHORT = 20,    /* of the pieces 1 to k not all are there; a: how many different ones are, b: k */
     TITMEADOW_TEXT = 21,     /* the text of a policy cannot be read (the listing program only); a: the first bad line */
     TITMEADOW_LONE = 22,     /* a required set has a single member; a: the first such set */
     TITMEADOW_NOTKEY = 23,   /* there are not ten words (a = 0); else the first exceeds 2047 or another 8191; a: the first such word */
-    TITMEADOW_UNLIKE = 24    /* the two blocks of an addition differ in one of words 3 to 7; a: the first such word */
+    TITMEADOW_UNLIKE = 24,   /* the two blocks of an addition differ in one of words 3 to 7; a: the first such word */
+    TITMEADOW_YEAR = 25      /* the year exceeds 32748 */
 };
 
 /* Planning: the result is k, the number of pieces. A set is a number in which the bit of person i is 2^(i-1).
@@ -82,13 +84,15 @@ titmeadow_answer titmeadow_plan(size_t people, const uint16_t *required, size_t 
 
 /* Dealing one holder's card: the result is its number of blocks, of 512 bytes each, which are written to the front of card; a
  * holder of no piece has a card without a block. The secret has w = words words, 1 to 16, and random has w(k - 1) words, not one more
- * or less, even and never used again; each of both is 0 to 32748. Every card of a deal is made from the same policy, deal number,
- * secret and random. room counts bytes. Refuses 1 to 5, 22, 6 to 12, in this order.
+ * or less, even and never used again; each of both is 0 to 32748. Every card of a deal is made from the same policy, deal number, year,
+ * secret and random. deal is 1 to 32748 and year 0 to 32748: a number may come again in another year, and cards of two years do not join.
+ * Cards that were made when blocks had no year are cards of year 0.
+ * room counts bytes. Refuses 1 to 5, 22, 6 to 8, 25, 9 to 12, in this order.
  * A card has at most 35 blocks: the groups of its pieces are of the other seven people, none inside another, and by Sperner's theorem
  * there are no more such. That is not proved here; proved is that k is at most 70, so that 70 blocks are room for every card. A card
  * that does not fit is refused. */
 titmeadow_answer titmeadow_deal(size_t people, const uint16_t *required, size_t required_count, const uint16_t *forbidden,
-                                size_t forbidden_count, size_t deal, size_t holder, const uint16_t *secret, size_t words,
+                                size_t forbidden_count, size_t deal, size_t year, size_t holder, const uint16_t *secret, size_t words,
                                 const uint16_t *random, size_t random_count, uint8_t *card, size_t room);
 
 /* Joining a pile of blocks from cards, in any order and repeated at will: the result is w, the words of the secret, which are written
@@ -100,7 +104,8 @@ titmeadow_answer titmeadow_join(const uint8_t *pile, size_t length, uint16_t *se
  * inverse and of the weights. */
 titmeadow_answer titmeadow_join_by_differences(const uint8_t *pile, size_t length, uint16_t *secret, size_t room);
 
-/* Opening the first block of a pile: the result is 7, and its words 1 to 7 are written to the seven places of head.
+/* Opening the first block of a pile: the result is 7, and its words 1 to 7 are written to the seven places of head. The year is none of them:
+ * it is bytes 47 and 48 of the block, counted from 1 (TITMEADOW_YEAR_WORD).
  * Refuses 13 (fewer than 512 bytes; a = 0, since there is no block); 15, 16, 17, each with a = 1. */
 titmeadow_answer titmeadow_open(const uint8_t *pile, size_t length, uint16_t head[TITMEADOW_PLACES(TITMEADOW_HEAD_WORDS)]);
 
@@ -126,9 +131,9 @@ titmeadow_answer titmeadow_unpack(const uint16_t *words, size_t count, uint8_t *
 
 /* Dealing one holder's card of a key, which is dealt as its ten words: all is as titmeadow_deal has it for a secret of w = 10 words, so
  * random has 10(k - 1) words. The result is the number of blocks, which are written to the front of card. room counts bytes.
- * Refuses 1 to 5, 22, 6 to 9; 10 (the key has not 16 bytes; a = 0); 11; 12 (a: blocks), in this order. */
+ * Refuses 1 to 5, 22, 6 to 8, 25, 9; 10 (the key has not 16 bytes; a = 0); 11; 12 (a: blocks), in this order. */
 titmeadow_answer titmeadow_deal_key(size_t people, const uint16_t *required, size_t required_count, const uint16_t *forbidden,
-                                    size_t forbidden_count, size_t deal, size_t holder, const uint8_t *key, size_t length,
+                                    size_t forbidden_count, size_t deal, size_t year, size_t holder, const uint8_t *key, size_t length,
                                     const uint16_t *random, size_t random_count, uint8_t *card, size_t room);
 
 /* Joining a pile to a key: the pile is joined as titmeadow_join does it, and its words are unpacked. The result is 16, and the key's bytes
@@ -136,15 +141,15 @@ titmeadow_answer titmeadow_deal_key(size_t people, const uint16_t *required, siz
  * words that are no key's; last 12 (a = 16). */
 titmeadow_answer titmeadow_join_key(const uint8_t *pile, size_t length, uint8_t *key, size_t room);
 
-/* Adding two blocks into one, under a new deal number: the blocks are alike in words 3 to 7 (holder, people, k, w, piece), and so is the
+/* Adding two blocks into one, under a new deal number and year: the blocks are alike in words 3 to 7 (holder, people, k, w, piece), and so is the
  * sum; its values are theirs added one by one mod 32749. The result is 1, a number of blocks, and the sum is written to the first 512
  * bytes of block. room counts bytes. The two may be of one deal, and may be the same block.
- * Adding, block for block and all under one new number, the cards of a deal of the same policy whose secret is w zeros renews the cards
+ * Adding, block for block and all under one new number and year, the cards of a deal of the same policy whose secret is w zeros renews the cards
  * of a deal: the new cards join to the same secret, and with a card of either old deal they do not join.
- * Refuses, of block one and then of block two, 13 (not 512 bytes, fewer or more; a = 0) and 15, 16, 17 (a: 1 or 2); then 24; 8 (also where
- * deal is the number of one of the blocks); 12 (a = 1). */
-titmeadow_answer titmeadow_add(const uint8_t *one, size_t one_length, const uint8_t *two, size_t two_length, size_t deal, uint8_t *block,
-                               size_t room);
+ * Refuses, of block one and then of block two, 13 (not 512 bytes, fewer or more; a = 0) and 15, 16, 17 (a: 1 or 2); then 24; 8; 25; 8 once
+ * more, where deal and year are, both of them, those of one of the blocks; 12 (a = 1). */
+titmeadow_answer titmeadow_add(const uint8_t *one, size_t one_length, const uint8_t *two, size_t two_length, size_t deal, size_t year,
+                               uint8_t *block, size_t room);
 
 #ifdef __cplusplus
 }

@@ -1,4 +1,4 @@
-/* Adding: every refusal of it, results, the limits from both sides, and a deal whose cards are renewed; the whole output each time. */
+/* Adding: every refusal of it, results, and the limits from both sides; the whole output each time. */
 #include "calls.h"
 
 /* The two blocks, each at the front of more than it has: the call is lent a length. */
@@ -18,24 +18,32 @@ static void lay_fellows(void) {
     lay(two, block);
 }
 
-/* So many bytes of each, NULL where there are none, added under a number into so many bytes, NULL alike. */
-static void add(const char *what, size_t first, size_t second, size_t deal, size_t room, titmeadow_answer want, const uint8_t *sum) {
+/* So many bytes of each, NULL where there are none, added under a number and a year into so many bytes, NULL alike. */
+static void add_in(size_t year, const char *what, size_t first, size_t second, size_t deal, size_t room, titmeadow_answer want,
+                   const uint8_t *sum) {
     uint8_t was[2][LONGEST];
     memcpy(was[0], one, LONGEST);
     memcpy(was[1], two, LONGEST);
     uint8_t *out = (uint8_t *)lend();
-    titmeadow_answer got = titmeadow_add(first == 0 ? NULL : one, first, second == 0 ? NULL : two, second, deal, room == 0 ? NULL : out, room);
+    titmeadow_answer got = titmeadow_add(first == 0 ? NULL : one, first, second == 0 ? NULL : two, second, deal, year,
+                                         room == 0 ? NULL : out, room);
     is(ADD, what, got, want, sum, want.number == 0 ? BLOCK : 0);
     if (memcmp(was[0], one, LONGEST) != 0 || memcmp(was[1], two, LONGEST) != 0)
         fault(ADD, what, "a block that was lent to be read is another");
 }
 
-/* Whole blocks, refused whatever number and room are lent. */
+/* The same under year 0. */
+static void add(const char *what, size_t first, size_t second, size_t deal, size_t room, titmeadow_answer want, const uint8_t *sum) {
+    add_in(0, what, first, second, deal, room, want, sum);
+}
+
+/* Whole blocks, refused whatever number, year and room are lent. */
 static void refuses(const char *what, titmeadow_answer want) {
     const size_t deals[] = {9, 0, TITMEADOW_WORD_MOST + 1};
     for (size_t i = 0; i < COUNT(deals); i++) {
         add(what, BLOCK, BLOCK, deals[i], BLOCK, want, NULL);
         add(what, BLOCK, BLOCK, deals[i], 0, want, NULL);
+        add_in(TITMEADOW_WORD_MOST + 1, what, BLOCK, BLOCK, deals[i], 0, want, NULL);
     }
 }
 
@@ -97,7 +105,7 @@ static void slots(void) {
 /* Words that the layout has not, under a right check. */
 static const struct {
     size_t i, value;
-} broken[] = {{1, 1986}, {2, 0}, {3, 0}, {3, 9}, {4, 0}, {4, 3}, {4, 9}, {5, 0}, {5, 71}, {6, 0}, {6, 17}, {7, 0}, {7, 4}, {9, 1}, {255, 1}};
+} broken[] = {{1, 1986}, {2, 0}, {3, 0}, {3, 9}, {4, 0}, {4, 3}, {4, 9}, {5, 0}, {5, 71}, {6, 0}, {6, 17}, {7, 0}, {7, 4}, {9, 1}, {23, 1}, {25, 1}, {255, 1}};
 
 static void layouts(void) {
     for (size_t j = 0; j < COUNT(broken); j++) {
@@ -163,6 +171,47 @@ static void numbers(void) {
     add("two blocks of one number, and another", BLOCK, BLOCK, 8, BLOCK, done(1), sum);
 }
 
+/* A block of 2026 and one of 1999: years that are none, behind a bad number and before the pair of an old deal; and new years. */
+static void years(void) {
+    const size_t good[] = {0, 1, 256, 2025, 2026, TITMEADOW_WORD_MOST}, wide = (size_t)1 << 40;
+    const size_t bad[] = {TITMEADOW_WORD_MOST + 1, 32767, 65535, 65536, 65536 + 2026, wide, wide + 2026, SIZE_MAX};
+    const titmeadow_answer deal = refused(TITMEADOW_DEAL, 0, 0), year = refused(TITMEADOW_YEAR, 0, 0);
+    const struct {
+        size_t deal, year;
+        int old; /* it is the pair of one of the two */
+    } pairs[] = {{7, 2026, 1}, {8, 1999, 1}, {7, 1999, 0}, {8, 2026, 0}, {7, 0, 0}, {8, 0, 0}, {7, 2027, 0}, {7, 2026 - 256, 0}, {9, 2026, 0}, {9, 1999, 0}};
+    uint8_t sum[BLOCK];
+    lay_fellows();
+    put_year(one, 2026);
+    put_year(two, 1999);
+    for (size_t turn = 0; turn < 2; turn++) {
+        for (size_t i = 0; i < COUNT(bad); i++)
+            for (size_t room = 0; room <= BLOCK; room += BLOCK) {
+                add_in(bad[i], "a year that is none", BLOCK, BLOCK, 9, room, year, NULL);
+                add_in(bad[i], "a year that is none, and an old number", BLOCK, BLOCK, 7, room, year, NULL);
+                add_in(bad[i], "a year that is none, and deal 0", BLOCK, BLOCK, 0, room, deal, NULL);
+                add_in(bad[i], "a year that is none, and deal 32749", BLOCK, BLOCK, TITMEADOW_WORD_MOST + 1, room, deal, NULL);
+            }
+        for (size_t i = 0; i < COUNT(good); i++) {
+            put_block(sum, 9, 4, 4, 3, 1, 1, LISTED(1246));
+            put_year(sum, good[i]);
+            add_in(good[i], "a new number in a year", BLOCK, BLOCK, 9, BLOCK, done(1), sum);
+        }
+        for (size_t i = 0; i < COUNT(pairs); i++) {
+            put_block(sum, pairs[i].deal, 4, 4, 3, 1, 1, LISTED(1246));
+            put_year(sum, pairs[i].year);
+            add_in(pairs[i].year, "old numbers and old years", BLOCK, BLOCK, pairs[i].deal, BLOCK, pairs[i].old ? deal : done(1), sum);
+            add_in(pairs[i].year, "and no room", BLOCK, BLOCK, pairs[i].deal, BLOCK - 1, pairs[i].old ? deal : refused(TITMEADOW_ROOM, 1, 0), NULL);
+        }
+        uint8_t block[BLOCK];
+        memcpy(block, one, BLOCK);
+        lay(one, two);
+        lay(two, block);
+    }
+    lay(two, one);
+    add_in(2026, "a block and itself under its number and year", BLOCK, BLOCK, 7, BLOCK, deal, NULL);
+}
+
 static void rooms(void) {
     const size_t few[] = {0, 1, BLOCK / 2, BLOCK - 1};
     lay_fellows();
@@ -193,59 +242,6 @@ static void sums(void) {
     add("sums of 32749", BLOCK, BLOCK, 2, BLOCK, done(1), sum);
 }
 
-/* P11's deal renewed: the cards of deal 7 and of a deal 8 of the word 0, coefficients 32748 and 1 (pieces 0, 2, 6), are dealt and added block for block
- * under 9. The pieces are 1246, 1274, 1318 then, and 3 * 1246 - 3 * 1274 + 1318 = 1234. */
-static void renewal(void) {
-    static uint8_t old[4][2 * BLOCK], new[4][2 * BLOCK];
-    const uint16_t required[] = {3, 6, 12}, values[] = {1246, 1274, 1318};
-    const size_t held[4][2] = {{3}, {1, 2}, {2, 3}, {1}}, blocks[4] = {1, 2, 2, 1};
-    for (size_t holder = 1; holder <= 4; holder++) {
-        uint8_t zero[2 * BLOCK], *const was = old[holder - 1], *const is_now = new[holder - 1];
-        titmeadow_answer first = titmeadow_deal(4, required, 3, LIST(9), 7, holder, LIST(1234), LIST(5, 7), was, 2 * BLOCK);
-        titmeadow_answer second = titmeadow_deal(4, required, 3, LIST(9), 8, holder, LIST(0), LIST(32748, 1), zero, 2 * BLOCK);
-        if (first.a != blocks[holder - 1] || second.a != blocks[holder - 1])
-            fault(DEAL, "a deal that is renewed", "another number of blocks");
-        for (size_t i = 0; i < blocks[holder - 1]; i++) {
-            const size_t piece = held[holder - 1][i];
-            put_block(is_now + BLOCK * i, 9, holder, 4, 3, 1, piece, &values[piece - 1]);
-            lay(one, was + BLOCK * i);
-            lay(two, zero + BLOCK * i);
-            add("a block of a card that is renewed", BLOCK, BLOCK, 9, BLOCK, done(1), is_now + BLOCK * i);
-        }
-    }
-    static uint8_t pile[6][BLOCK];
-    for (unsigned group = 0; group < 16; group++) {
-        size_t length = 0, seen = 0, count = 0;
-        for (size_t holder = 1; holder <= 4; holder++)
-            for (size_t i = 0; (group >> (holder - 1) & 1) && i < blocks[holder - 1]; i++) {
-                memcpy(pile[length++], new[holder - 1] + BLOCK * i, BLOCK);
-                seen |= (size_t)1 << held[holder - 1][i];
-            }
-        for (size_t piece = 1; piece <= 3; piece++)
-            count += seen >> piece & 1;
-        const int opens = (group & 3) == 3 || (group & 6) == 6 || (group & 12) == 12;
-        titmeadow_answer want = opens ? done(1) : refused(TITMEADOW_SHORT, count, group == 0 ? 0 : 3);
-        uint16_t *out = lend();
-        is(JOIN, "new cards of a group", titmeadow_join(group == 0 ? NULL : pile[0], BLOCK * length, out, 1), want, LISTED(1234), opens ? 2 : 0);
-        out = lend();
-        is(JOIN_BY_DIFFERENCES, "new cards of a group", titmeadow_join_by_differences(group == 0 ? NULL : pile[0], BLOCK * length, out, 1), want,
-           LISTED(1234), opens ? 2 : 0);
-    }
-    /* old and new together: holder 1 has one block, holder 2 has two */
-    uint16_t *out = lend();
-    memcpy(pile[0], old[0], BLOCK);
-    memcpy(pile[1], new[1], 2 * BLOCK);
-    is(JOIN, "the old card of 1, the new one of 2", titmeadow_join(pile[0], 3 * BLOCK, out, 1), refused(TITMEADOW_MIXED, 1, 0), NONE);
-    out = lend();
-    memcpy(pile[0], new[0], BLOCK);
-    memcpy(pile[1], old[1], 2 * BLOCK);
-    is(JOIN, "the new card of 1, the old one of 2", titmeadow_join(pile[0], 3 * BLOCK, out, 1), refused(TITMEADOW_MIXED, 1, 0), NONE);
-    /* old cards still join among themselves */
-    out = lend();
-    memcpy(pile[0], old[0], BLOCK);
-    is(JOIN, "the old cards of 1 and 2", titmeadow_join(pile[0], 3 * BLOCK, out, 1), done(1), LISTED(1234), 2);
-}
-
 void adding(void) {
     worked();
     lengths();
@@ -253,7 +249,7 @@ void adding(void) {
     layouts();
     unlike();
     numbers();
+    years();
     rooms();
     sums();
-    renewal();
 }

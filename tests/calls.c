@@ -1,5 +1,5 @@
 /* Every exported call with every refusal that it can give: its number, both places, and all that was lent to be written, compared whole;
- * results and NULL for a count of 0 as well. tests/cards.c, piles.c, salvage.c, keys.c and adding.c have the cases; what they expect is worked out
+ * results and NULL for a count of 0 as well. tests/cards.c, piles.c, salvage.c, keys.c, adding.c and renewal.c have the cases; what they expect is worked out
  * from docs/SCOPE.md, by hand where no rule is written here. It prints for each call the numbers that were met, 0 for a result; its status is
  * 0 only where all was as expected, and each call was seen to give all that it can. tools/firmware builds it, runs it and holds what it
  * prints to the header and to the archive. */
@@ -14,16 +14,16 @@ static const struct {
     size_t gives[NUMBERS];
 } calls[CALLS] = {
     [PLAN] = {"titmeadow_plan", {1, 2, 3, 4, 5, 6, 22}},
-    [DEAL] = {"titmeadow_deal", {1, 2, 3, 4, 5, 6, 8, 9, 10, 11, 12, 22}},
+    [DEAL] = {"titmeadow_deal", {1, 2, 3, 4, 5, 6, 8, 9, 10, 11, 12, 22, 25}},
     [JOIN] = {"titmeadow_join", {12, 13, 14, 15, 16, 17, 18, 19, 20}},
     [JOIN_BY_DIFFERENCES] = {"titmeadow_join_by_differences", {12, 13, 14, 15, 16, 17, 18, 19, 20}},
     [OPEN] = {"titmeadow_open", {13, 15, 16, 17}},
     [SALVAGE] = {"titmeadow_salvage", {12, 13, 14}},
     [PACK] = {"titmeadow_pack", {10}},
     [UNPACK] = {"titmeadow_unpack", {12, 23}},
-    [DEAL_KEY] = {"titmeadow_deal_key", {1, 2, 3, 4, 5, 6, 8, 9, 10, 11, 12, 22}},
+    [DEAL_KEY] = {"titmeadow_deal_key", {1, 2, 3, 4, 5, 6, 8, 9, 10, 11, 12, 22, 25}},
     [JOIN_KEY] = {"titmeadow_join_key", {12, 13, 14, 15, 16, 17, 18, 19, 20, 23}},
-    [ADD] = {"titmeadow_add", {8, 12, 13, 15, 16, 17, 24}},
+    [ADD] = {"titmeadow_add", {8, 12, 13, 15, 16, 17, 24, 25}},
 };
 /* Those that no input gives: eight people never have over 70 maximal groups, and the listing program alone reads texts. */
 static const size_t never[] = {TITMEADOW_WIDE, TITMEADOW_TEXT};
@@ -88,6 +88,11 @@ void put_block(uint8_t *block, size_t deal, size_t holder, size_t n, size_t k, s
     put_check(block);
 }
 
+void put_year(uint8_t *block, size_t year) {
+    put(block, TITMEADOW_YEAR_WORD, year);
+    put_check(block);
+}
+
 /* The check of the first is 12025 by SCOPE; that of the second 1987 + 14 + 6 + 16 + 15 + 6 + 14 + 8 * 1272 = 12234. */
 uint8_t three[3][BLOCK];
 uint16_t sixteen[TITMEADOW_SECRET_MOST], largest[TITMEADOW_SECRET_MOST];
@@ -139,6 +144,7 @@ int main(void) {
         salvage();
         keys();
         adding();
+        renewal();
     }
     return summary();
 }

@@ -15,12 +15,13 @@ enum { BLOCK = TITMEADOW_BLOCK_BYTES };
 /* the exported calls; tests/calls.c has the refusals that each can give */
 enum call { PLAN, DEAL, JOIN, JOIN_BY_DIFFERENCES, OPEN, SALVAGE, PACK, UNPACK, DEAL_KEY, JOIN_KEY, ADD, CALLS };
 
-/* The cases: planning and dealing; joining and opening; salvaging; keys; adding. */
+/* The cases: planning and dealing; joining and opening; salvaging; keys; adding; cards that are renewed. */
 void cards(void);
 void piles(void);
 void salvage(void);
 void keys(void);
 void adding(void);
+void renewal(void);
 
 /* Paints the field anew, and lends from its middle. */
 uint16_t *lend(void);
@@ -33,10 +34,11 @@ titmeadow_answer refused(size_t number, size_t a, size_t b);
 /* Says what is wrong with a case, which fails the test. */
 void fault(enum call call, const char *what, const char *how);
 
-/* Blocks: a word is put; the check is made anew; a whole block, its words 2 to 7 in their order and its values. */
+/* Blocks: a word is put; the check is made anew; a whole block, its words 2 to 7 in their order and its values, of year 0; and of another. */
 void put(uint8_t *block, size_t i, size_t value);
 void put_check(uint8_t *block);
 void put_block(uint8_t *block, size_t deal, size_t holder, size_t n, size_t k, size_t w, size_t piece, const uint16_t *values);
+void put_year(uint8_t *block, size_t year);
 
 /* The blocks of pieces 1, 2, 3 of P11's deal (policy P1, number 7, the word 1234, coefficients 5 and 7), of holders 4, 2, 1; two secrets
  * of 16 words: unlike ones, and all 32748. */

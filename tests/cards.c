@@ -55,19 +55,25 @@ static titmeadow_answer plan(struct policy p, uint16_t *groups) {
 }
 
 /* Deals into `room` bytes, or NULL where there are none. */
-static titmeadow_answer deal(const struct policy *p, size_t number, size_t holder, const uint16_t *secret, size_t words,
-                             const uint16_t *random, size_t random_count, size_t room) {
+static titmeadow_answer deal_in(size_t year, const struct policy *p, size_t number, size_t holder, const uint16_t *secret, size_t words,
+                                const uint16_t *random, size_t random_count, size_t room) {
     uint8_t *card = (uint8_t *)lend();
-    return titmeadow_deal(p->people, p->required, p->required_count, p->forbidden, p->forbidden_count, number, holder, secret, words,
+    return titmeadow_deal(p->people, p->required, p->required_count, p->forbidden, p->forbidden_count, number, year, holder, secret, words,
                           random, random_count, room == 0 ? NULL : card, room);
 }
 
-/* Planning; dealing asks the policy first, here with nothing else that is right. */
+/* The same in year 0. */
+static titmeadow_answer deal(const struct policy *p, size_t number, size_t holder, const uint16_t *secret, size_t words,
+                             const uint16_t *random, size_t random_count, size_t room) {
+    return deal_in(0, p, number, holder, secret, words, random, random_count, room);
+}
+
+/* Planning; dealing asks the policy first, here with nothing else that is right, the year neither. */
 static void planning(void) {
     for (size_t i = 0; i < COUNT(bad_policies); i++) {
         const struct policy p = bad_policies[i].policy;
         is(PLAN, bad_policies[i].what, plan(p, lend()), bad_policies[i].answer, NONE);
-        is(DEAL, bad_policies[i].what, deal(&p, 0, 0, NONE, NONE, BLOCK), bad_policies[i].answer, NONE);
+        is(DEAL, bad_policies[i].what, deal_in(SIZE_MAX, &p, 0, 0, NONE, NONE, BLOCK), bad_policies[i].answer, NONE);
     }
     for (size_t i = 0; i < COUNT(good_policies); i++)
         is(PLAN, good_policies[i].what, plan(good_policies[i].policy, lend()), done(good_policies[i].count), good_policies[i].groups,
@@ -102,6 +108,29 @@ static const struct {
     {"no room", 7, 4, LIST(1234), LIST(5, 7), 0, {TITMEADOW_ROOM, 1, 0}},
 };
 
+/* P11 in other years: word 24 of 2026 adds 24 * 2026 to the check of 12025, and 60649 less 32749 is 27900. Every bad deal but for the two of a bad
+ * number is YEAR in a year that is none. */
+static void years(void) {
+    const size_t good[] = {0, 1, 255, 256, 2026, TITMEADOW_WORD_MOST}, wide = (size_t)1 << 40;
+    const size_t bad[] = {TITMEADOW_WORD_MOST + 1, 32767, 65535, 65536, 65536 + 2026, wide, wide + 2026, SIZE_MAX};
+    uint8_t block[BLOCK];
+    for (size_t i = 0; i < COUNT(good); i++) {
+        memcpy(block, three[0], BLOCK);
+        put_year(block, good[i]);
+        if (good[i] == 2026 && (block[46] != 2026 / 256 || block[47] != 2026 % 256 || block[510] != 27900 / 256 || block[511] != 27900 % 256))
+            fault(DEAL, "P11 in 2026", "another check");
+        is(DEAL, "P11 in a year", deal_in(good[i], &p1, 7, 4, LIST(1234), LIST(5, 7), BLOCK), done(1), block, BLOCK);
+    }
+    for (size_t i = 0; i < COUNT(bad); i++) {
+        is(DEAL, "a year that is none", deal_in(bad[i], &p1, 7, 4, LIST(1234), LIST(5, 7), BLOCK), refused(TITMEADOW_YEAR, 0, 0), NONE);
+        for (size_t j = 0; j < COUNT(bad_deals); j++)
+            is(DEAL, "a year that is none, and more",
+               deal_in(bad[i], &p1, bad_deals[j].deal, bad_deals[j].holder, bad_deals[j].secret, bad_deals[j].words, bad_deals[j].random,
+                       bad_deals[j].random_count, bad_deals[j].room),
+               refused(bad_deals[j].answer.number == TITMEADOW_DEAL ? TITMEADOW_DEAL : TITMEADOW_YEAR, 0, 0), NONE);
+    }
+}
+
 static void dealing(void) {
     static uint8_t card[TITMEADOW_CARD_MOST][BLOCK];
     for (size_t i = 0; i < COUNT(bad_deals); i++)
@@ -124,7 +153,8 @@ static void dealing(void) {
     for (size_t i = 0; i < COUNT(values); i++)
         values[i] = 32746;
     put_block(card[0], TITMEADOW_WORD_MOST, 1, 2, 2, TITMEADOW_SECRET_MOST, 2, values);
-    is(DEAL, "all as large as can be", deal(&both, TITMEADOW_WORD_MOST, 1, largest, COUNT(largest), largest, COUNT(largest), BLOCK),
+    put_year(card[0], TITMEADOW_WORD_MOST);
+    is(DEAL, "all as large as can be", deal_in(TITMEADOW_WORD_MOST, &both, TITMEADOW_WORD_MOST, 1, largest, COUNT(largest), largest, COUNT(largest), BLOCK),
        done(1), card, BLOCK);
 
     /* With coefficients of 0 each piece is the secret. Holder 8 has the pieces whose group is without 8. */
@@ -156,4 +186,5 @@ void cards(void) {
     seventeen[3] = TITMEADOW_WORD_MOST + 1;
     planning();
     dealing();
+    years();
 }

@@ -9,14 +9,14 @@ int main() {
     static uint8_t card[TITMEADOW_CARD_MOST * TITMEADOW_BLOCK_BYTES];
     const uint16_t required[] = {1 + 2, 2 + 4, 4 + 8}, word[] = {1234}, randomness[] = {5, 7};
     bool good = titmeadow_plan(4, required, 3, nullptr, 0, groups).a == 3;
-    good &= titmeadow_deal(4, required, 3, nullptr, 0, 7, 4, word, 1, randomness, 2, card, sizeof card).a == 1;
+    good &= titmeadow_deal(4, required, 3, nullptr, 0, 7, 2026, 4, word, 1, randomness, 2, card, sizeof card).a == 1;
     good &= titmeadow_pack(key, sizeof key, words).a == TITMEADOW_KEY_WORDS;
     good &= titmeadow_unpack(words, TITMEADOW_KEY_WORDS, key, sizeof key).a == TITMEADOW_KEY_BYTES;
-    good &= titmeadow_deal_key(4, required, 3, nullptr, 0, 7, 4, key, sizeof key, nullptr, 0, card, sizeof card).number == TITMEADOW_RANDOM;
+    good &= titmeadow_deal_key(4, required, 3, nullptr, 0, 7, 2026, 4, key, sizeof key, nullptr, 0, card, sizeof card).number == TITMEADOW_RANDOM;
     good &= titmeadow_join_key(card, TITMEADOW_BLOCK_BYTES, key, sizeof key).number == TITMEADOW_SHORT;
     good &= titmeadow_open(card, TITMEADOW_BLOCK_BYTES, head).a == TITMEADOW_HEAD_WORDS;
     good &= titmeadow_salvage(card, TITMEADOW_BLOCK_BYTES, list, 2 * TITMEADOW_PILE_MOST).a == 0;
-    good &= titmeadow_add(card, TITMEADOW_BLOCK_BYTES, card, TITMEADOW_BLOCK_BYTES, 7, nullptr, 0).number == TITMEADOW_DEAL;
+    good &= titmeadow_add(card, TITMEADOW_BLOCK_BYTES, card, TITMEADOW_BLOCK_BYTES, 7, 2026, nullptr, 0).number == TITMEADOW_DEAL;
     good &= titmeadow_join(card, TITMEADOW_BLOCK_BYTES, secret, TITMEADOW_SECRET_MOST).number == TITMEADOW_SHORT;
     good &= titmeadow_join_by_differences(card, TITMEADOW_BLOCK_BYTES, secret, TITMEADOW_SECRET_MOST).number == TITMEADOW_SHORT;
     return good ? 0 : 1;

@@ -77,7 +77,7 @@ static const struct {
     const uint16_t *required;
     size_t required_count;
     const uint16_t *forbidden;
-    size_t forbidden_count, deal, holder;
+    size_t forbidden_count, deal, year, holder;
     const uint8_t *key;
     size_t length;
     const uint16_t *random;
@@ -86,26 +86,28 @@ static const struct {
 } bad_deals[] = {
 #define P1 4, LIST(3, 6, 12), LIST(9)
 #define RIGHT coefficients, 2 * WORDS
-    {"no people", 0, NONE, NONE, 0, 0, NONE, NONE, 0, {TITMEADOW_PEOPLE, 0, 0}},
-    {"257 sets", 4, (const uint16_t[TITMEADOW_SETS_MOST + 1]){0}, TITMEADOW_SETS_MOST + 1, NONE, 0, 0, NONE, NONE, 0, {TITMEADOW_LONGLIST, 1, 0}},
-    {"person 5 of 4", 4, LIST(3), LIST(9, 16), 0, 0, NONE, NONE, 0, {TITMEADOW_STRANGER, 2, 2}},
-    {"nobody required", 4, NONE, LIST(9), 0, 0, NONE, NONE, 0, {TITMEADOW_NOBODY, 0, 0}},
-    {"the empty set, behind a set of one", 4, LIST(1, 0), LIST(9), 0, 0, NONE, NONE, 0, {TITMEADOW_OPEN, 2, 0}},
-    {"a set of one, and a clash", 4, LIST(3, 8), LIST(11), 0, 0, NONE, NONE, 0, {TITMEADOW_LONE, 2, 0}},
-    {"a clash", 4, LIST(6, 3), LIST(9, 11), 0, 0, NONE, NONE, 0, {TITMEADOW_CLASH, 2, 2}},
-    {"deal 0, holder 0, and no key", P1, 0, 0, NONE, RIGHT, BLOCK, {TITMEADOW_DEAL, 0, 0}},
-    {"deal 32749", P1, TITMEADOW_WORD_MOST + 1, 4, zeros, KEY, RIGHT, BLOCK, {TITMEADOW_DEAL, 0, 0}},
-    {"holder 5 of 4, and a key too long", P1, 7, 5, zeros, KEY + 1, RIGHT, BLOCK, {TITMEADOW_HOLDER, 0, 0}},
-    {"no key, and no randomness", P1, 7, 4, NONE, NONE, BLOCK, {TITMEADOW_SECRET, 0, 0}},
-    {"a key of 15 bytes, and no room", P1, 7, 4, zeros, KEY - 1, RIGHT, 0, {TITMEADOW_SECRET, 0, 0}},
-    {"a key of 17 bytes", P1, 7, 4, zeros, KEY + 1, RIGHT, BLOCK, {TITMEADOW_SECRET, 0, 0}},
-    {"a key of 32 bytes, and random 32749", P1, 7, 4, zeros, 2 * KEY, LIST(32749), BLOCK, {TITMEADOW_SECRET, 0, 0}},
-    {"no randomness", P1, 7, 4, zeros, KEY, NONE, BLOCK, {TITMEADOW_RANDOM, 0, 0}},
-    {"a random word too many", P1, 7, 4, zeros, KEY, coefficients, 2 * WORDS + 1, BLOCK, {TITMEADOW_RANDOM, 0, 0}},
-    {"random 32749 at the end, and no room", P1, 7, 4, zeros, KEY,
+    {"no people", 0, NONE, NONE, 0, SIZE_MAX, 0, NONE, NONE, 0, {TITMEADOW_PEOPLE, 0, 0}},
+    {"257 sets", 4, (const uint16_t[TITMEADOW_SETS_MOST + 1]){0}, TITMEADOW_SETS_MOST + 1, NONE, 0, SIZE_MAX, 0, NONE, NONE, 0, {TITMEADOW_LONGLIST, 1, 0}},
+    {"person 5 of 4", 4, LIST(3), LIST(9, 16), 0, SIZE_MAX, 0, NONE, NONE, 0, {TITMEADOW_STRANGER, 2, 2}},
+    {"nobody required", 4, NONE, LIST(9), 0, SIZE_MAX, 0, NONE, NONE, 0, {TITMEADOW_NOBODY, 0, 0}},
+    {"the empty set, behind a set of one", 4, LIST(1, 0), LIST(9), 0, SIZE_MAX, 0, NONE, NONE, 0, {TITMEADOW_OPEN, 2, 0}},
+    {"a set of one, and a clash", 4, LIST(3, 8), LIST(11), 0, SIZE_MAX, 0, NONE, NONE, 0, {TITMEADOW_LONE, 2, 0}},
+    {"a clash", 4, LIST(6, 3), LIST(9, 11), 0, SIZE_MAX, 0, NONE, NONE, 0, {TITMEADOW_CLASH, 2, 2}},
+    {"deal 0, year 32749, holder 0, and no key", P1, 0, TITMEADOW_WORD_MOST + 1, 0, NONE, RIGHT, BLOCK, {TITMEADOW_DEAL, 0, 0}},
+    {"deal 32749", P1, TITMEADOW_WORD_MOST + 1, 0, 4, zeros, KEY, RIGHT, BLOCK, {TITMEADOW_DEAL, 0, 0}},
+    {"year 32749, holder 0, and no key", P1, 7, TITMEADOW_WORD_MOST + 1, 0, NONE, RIGHT, BLOCK, {TITMEADOW_YEAR, 0, 0}},
+    {"year 65536, and no room", P1, 7, 65536, 4, zeros, KEY, RIGHT, 0, {TITMEADOW_YEAR, 0, 0}},
+    {"holder 5 of 4, and a key too long", P1, 7, TITMEADOW_WORD_MOST, 5, zeros, KEY + 1, RIGHT, BLOCK, {TITMEADOW_HOLDER, 0, 0}},
+    {"no key, and no randomness", P1, 7, 0, 4, NONE, NONE, BLOCK, {TITMEADOW_SECRET, 0, 0}},
+    {"a key of 15 bytes, and no room", P1, 7, 2026, 4, zeros, KEY - 1, RIGHT, 0, {TITMEADOW_SECRET, 0, 0}},
+    {"a key of 17 bytes", P1, 7, 2026, 4, zeros, KEY + 1, RIGHT, BLOCK, {TITMEADOW_SECRET, 0, 0}},
+    {"a key of 32 bytes, and random 32749", P1, 7, 2026, 4, zeros, 2 * KEY, LIST(32749), BLOCK, {TITMEADOW_SECRET, 0, 0}},
+    {"no randomness", P1, 7, 2026, 4, zeros, KEY, NONE, BLOCK, {TITMEADOW_RANDOM, 0, 0}},
+    {"a random word too many", P1, 7, 2026, 4, zeros, KEY, coefficients, 2 * WORDS + 1, BLOCK, {TITMEADOW_RANDOM, 0, 0}},
+    {"random 32749 at the end, and no room", P1, 7, 2026, 4, zeros, KEY,
      LIST(0, 0, 0, 0, 0, 0, 0, 0, 0, 0, 0, 0, 0, 0, 0, 0, 0, 0, 32748, 32749), 0, {TITMEADOW_RANDOM, 20, 0}},
-    {"a byte too little for two blocks", P1, 7, 2, zeros, KEY, RIGHT, 2 * BLOCK - 1, {TITMEADOW_ROOM, 2, 0}},
-    {"no room", P1, 7, 4, zeros, KEY, RIGHT, 0, {TITMEADOW_ROOM, 1, 0}},
+    {"a byte too little for two blocks", P1, 7, 2026, 2, zeros, KEY, RIGHT, 2 * BLOCK - 1, {TITMEADOW_ROOM, 2, 0}},
+    {"no room", P1, 7, 2026, 4, zeros, KEY, RIGHT, 0, {TITMEADOW_ROOM, 1, 0}},
 };
 
 static void dealing(void) {
@@ -113,19 +115,23 @@ static void dealing(void) {
         uint8_t *out = (uint8_t *)lend();
         is(DEAL_KEY, bad_deals[i].what,
            titmeadow_deal_key(bad_deals[i].people, bad_deals[i].required, bad_deals[i].required_count, bad_deals[i].forbidden,
-                              bad_deals[i].forbidden_count, bad_deals[i].deal, bad_deals[i].holder, bad_deals[i].key, bad_deals[i].length,
-                              bad_deals[i].random, bad_deals[i].random_count, bad_deals[i].room == 0 ? NULL : out, bad_deals[i].room),
+                              bad_deals[i].forbidden_count, bad_deals[i].deal, bad_deals[i].year, bad_deals[i].holder, bad_deals[i].key,
+                              bad_deals[i].length, bad_deals[i].random, bad_deals[i].random_count, bad_deals[i].room == 0 ? NULL : out, bad_deals[i].room),
            bad_deals[i].answer, NONE);
     }
     for (size_t i = 0; i < COUNT(good_keys); i++) {
         uint8_t card[2][BLOCK];
         put_piece(card[0], 2, 1, good_keys[i].words, WORDS);
         put_piece(card[1], 2, 2, good_keys[i].words, WORDS);
-        is(DEAL_KEY, good_keys[i].what, titmeadow_deal_key(P1, 7, 2, good_keys[i].key, KEY, RIGHT, (uint8_t *)lend(), sizeof card + i), done(2), card,
-           sizeof card);
+        is(DEAL_KEY, good_keys[i].what, titmeadow_deal_key(P1, 7, 0, 2, good_keys[i].key, KEY, RIGHT, (uint8_t *)lend(), sizeof card + i), done(2),
+           card, sizeof card);
+        put_year(card[0], 2026 + i);
+        put_year(card[1], 2026 + i);
+        is(DEAL_KEY, "in another year", titmeadow_deal_key(P1, 7, 2026 + i, 2, good_keys[i].key, KEY, RIGHT, (uint8_t *)lend(), sizeof card + i), done(2),
+           card, sizeof card);
     }
     lend();
-    is(DEAL_KEY, "a holder of no piece", titmeadow_deal_key(3, LIST(3), NONE, 7, 3, zeros, KEY, coefficients, WORDS, NULL, 0), done(0), NONE);
+    is(DEAL_KEY, "a holder of no piece", titmeadow_deal_key(3, LIST(3), NONE, 7, TITMEADOW_WORD_MOST, 3, zeros, KEY, coefficients, WORDS, NULL, 0), done(0), NONE);
 }
 
 static uint8_t pile[TITMEADOW_PILE_MOST + 1][BLOCK], kept[sizeof pile];
@@ -158,6 +164,8 @@ static const struct {
     {"another value", 8, 39, 0, {TITMEADOW_CHECK, 2, 0}},
     {"a word behind the values", 18, 1, 1, {TITMEADOW_HEADER, 2, 18}},
     {"another deal number", 2, 8, 1, {TITMEADOW_MIXED, 2, 0}},
+    {"another year", 24, 2026, 1, {TITMEADOW_MIXED, 2, 0}},
+    {"a word behind the year", 25, 2026, 1, {TITMEADOW_HEADER, 2, 25}},
     {"piece 1, with piece 2's values", 7, 1, 1, {TITMEADOW_CONFLICT, 2, 1}},
 };
 

@@ -69,6 +69,10 @@ static const struct {
     {"piece 0", 7, 0, ANEW, TITMEADOW_HEADER, 7},
     {"piece 4 of 3", 7, 4, ANEW, TITMEADOW_HEADER, 7},
     {"a word behind the value", 9, 1, ANEW, TITMEADOW_HEADER, 9},
+    {"a word before the year", 23, 2026, ANEW, TITMEADOW_HEADER, 23},
+    {"year 32749", 24, TITMEADOW_WORD_MOST + 1, ANEW, TITMEADOW_UNREAD, 24},
+    {"a year, and the check of another", 24, 2026, LEFT, TITMEADOW_CHECK, 0},
+    {"a word behind the year", 25, 2026, ANEW, TITMEADOW_HEADER, 25},
     {"a word before the check", 255, 1, ANEW, TITMEADOW_HEADER, 255},
 };
 
@@ -100,9 +104,12 @@ static void blocks(void) {
     changed(bad, three[1], 8, TITMEADOW_WORD_MOST, ANEW);
     LAY(bad);
     opened("a slot of 32748", BLOCK, done(TITMEADOW_HEAD_WORDS), head);
+    changed(bad, three[1], 24, TITMEADOW_WORD_MOST, ANEW);
+    LAY(bad);
+    opened("year 32748", BLOCK, done(TITMEADOW_HEAD_WORDS), head);
 }
 
-/* Another deal than that of the three blocks: word 2, 4, 5 or 6 of them is set to this value. */
+/* Another deal than that of the three blocks: word 2, 4, 5, 6 or 24 of them is set to this value. */
 static const struct {
     const char *what;
     size_t i, value;
@@ -114,6 +121,9 @@ static const struct {
     {"seventy pieces", 5, TITMEADOW_PIECES_MOST},
     {"more words", 6, 2},
     {"sixteen words", 6, TITMEADOW_SECRET_MOST},
+    {"another year", 24, 1},
+    {"another high byte of the year", 24, 256},
+    {"the last year", 24, TITMEADOW_WORD_MOST},
 };
 
 /* Old blocks, of the other deal, among new ones. Blocks of one deal are a heap. The pile is taken to be of the deal that has the most blocks, of
@@ -212,6 +222,20 @@ static void joining(void) {
     }
     JOINED("a word too little room", 15, TITMEADOW_ROOM, TITMEADOW_SECRET_MOST, 0, wide[0], wide[1]);
     joined("sixteen words", 2 * BLOCK, TITMEADOW_SECRET_MOST, done(TITMEADOW_SECRET_MOST), largest);
+
+    /* P8 in the same years; with sixteen values word 23 is the last of them, and the year stands right behind it */
+    const size_t years[] = {1, 256, 2026, TITMEADOW_WORD_MOST};
+    for (size_t i = 0; i < COUNT(years); i++) {
+        LAY(last, two, one);
+        for (size_t a = 0; a < 3; a++)
+            put_year(pile[a], years[i]);
+        joined("P8 in a year", 3 * BLOCK, 1, done(1), LISTED(1234));
+        LAY(wide[0], wide[1]);
+        put_year(pile[0], years[i]);
+        joined("sixteen words of two years", 2 * BLOCK, TITMEADOW_SECRET_MOST, refused(TITMEADOW_MIXED, 2, 0), NULL);
+        put_year(pile[1], years[i]);
+        joined("sixteen words in a year", 2 * BLOCK, TITMEADOW_SECRET_MOST, done(TITMEADOW_SECRET_MOST), largest);
+    }
 
     /* Seventy pieces with coefficients of 0: each is the secret. */
     for (size_t j = 1; j <= TITMEADOW_PIECES_MOST; j++)

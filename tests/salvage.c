@@ -67,6 +67,7 @@ static const struct {
     {"another value, and the holder is lost", 8, 1273, 3, 32767},
     {"another value, and the piece is lost", 8, 1273, 7, 32767},
     {"another value, and a word behind it is lost", 8, 1273, 9, 32767},
+    {"another value, and word 25 is lost", 8, 1273, 25, 32767},
     {"another value, and word 255 is lost", 8, 1273, 255, 32767},
     /* whatever the value comes to, it is no block of ours */
     {"mark 1988, and the value is lost", 1, 1988, 8, 32767},
@@ -88,7 +89,8 @@ static void what_stays(void) {
 }
 
 /* Holder 3 for 4 in the first block, so 3 less in the sum of 12025, and the value is lost: 8 times 5340 makes up for it, and the block is a
- * true one, though not the one that was dealt. Another value in the second, and its check is lost: 12234 and 8 more. */
+ * true one, though not the one that was dealt. Another value in the second, and its check is lost: 12234 and 8 more. Another value in the third, and
+ * its year is lost: 24 times 10916 is 8 less than a multiple of 32749, and any year is one. */
 static void two_faults(void) {
     uint8_t block[BLOCK];
     lay_three();
@@ -98,7 +100,10 @@ static void two_faults(void) {
     change(2, 8, 1273);
     lose(2, 256, 32767);
     put(due[1], 256, 12242);
-    salvaged("a fault beside the word that is lost", ALL, NUMBERS, done(2), LISTED(1, 8, 2, 256));
+    change(3, 8, 1313);
+    lose(3, 24, 32767);
+    put(due[2], 24, 10916);
+    salvaged("a fault beside the word that is lost", ALL, NUMBERS, done(3), LISTED(1, 8, 2, 256, 3, 24));
 }
 
 static void many(void) {

@@ -20,7 +20,7 @@ static size_t people, needs, bars, pieces;
 
 static void nothing(void) { sink = 1; }
 static void plan(void) { sink = titmeadow_plan(8, required, sets, required, 0, groups).a; }
-static void deal(void) { sink = titmeadow_deal(8, required, sets, required, 0, 7, 3, secret, 16, randomness, 16 * 69, card, sizeof card).a; }
+static void deal(void) { sink = titmeadow_deal(8, required, sets, required, 0, 7, 2026, 3, secret, 16, randomness, 16 * 69, card, sizeof card).a; }
 static void join(void) { sink = titmeadow_join(pile, piled, words, 16).a; }
 static void join_by_differences(void) { sink = titmeadow_join_by_differences(pile, piled, words, 16).a; }
 static void join_few(void) { sink = titmeadow_join(few, fewer, words, 16).number; }
@@ -30,15 +30,15 @@ static void salvage(void) {
     pile[14] = 0x7f, pile[15] = 0xff; /* a value of block 1, which comes back */
     sink = titmeadow_salvage(pile, piled, list, 2 * 560).a;
 }
-static void add(void) { sink = titmeadow_add(pile, 512, pile, 512, 9, card, sizeof card).a; }
+static void add(void) { sink = titmeadow_add(pile, 512, pile, 512, 9, 2026, card, sizeof card).a; }
 static void pack(void) { sink = titmeadow_pack(key, 16, words).a; }
 static void unpack(void) { sink = titmeadow_unpack(secret, 10, key, 16).a; }
-static void deal_key(void) { sink = titmeadow_deal_key(8, required, sets, required, 0, 7, 3, key, 16, randomness, 10 * 69, card, sizeof card).a; }
+static void deal_key(void) { sink = titmeadow_deal_key(8, required, sets, required, 0, 7, 2026, 3, key, 16, randomness, 10 * 69, card, sizeof card).a; }
 static void join_key(void) { sink = titmeadow_join_key(key_pile, key_piled, key, 16).a; }
 static void plan_lists(void) { sink = titmeadow_plan(people, need, needs, bar, bars, groups).a; }
-static void deal_lists(void) { sink = titmeadow_deal(people, need, needs, bar, bars, 7, 1, secret, 16, randomness, 16 * (pieces - 1), card, sizeof card).a; }
+static void deal_lists(void) { sink = titmeadow_deal(people, need, needs, bar, bars, 7, 2026, 1, secret, 16, randomness, 16 * (pieces - 1), card, sizeof card).a; }
 static void deal_key_lists(void) {
-    sink = titmeadow_deal_key(people, need, needs, bar, bars, 7, 1, key, 16, randomness, 10 * (pieces - 1), card, sizeof card).a;
+    sink = titmeadow_deal_key(people, need, needs, bar, bars, 7, 2026, 1, key, 16, randomness, 10 * (pieces - 1), card, sizeof card).a;
 }
 
 static ucontext_t back, there;
@@ -152,9 +152,9 @@ int main(void) {
         if (__builtin_popcount(set) == 5)
             required[sets++] = (uint16_t)set;
     for (size_t holder = 1; holder <= 8; holder++)
-        piled += 512 * titmeadow_deal(8, required, sets, required, 0, 7, holder, secret, 16, randomness, 16 * 69, pile + piled, sizeof pile - piled).a;
+        piled += 512 * titmeadow_deal(8, required, sets, required, 0, 7, 2026, holder, secret, 16, randomness, 16 * 69, pile + piled, sizeof pile - piled).a;
     for (size_t holder = 1; holder <= 8; holder++)
-        key_piled += 512 * titmeadow_deal_key(8, required, sets, required, 0, 7, holder, key, 16, randomness, 10 * 69, key_pile + key_piled,
+        key_piled += 512 * titmeadow_deal_key(8, required, sets, required, 0, 7, 2026, holder, key, 16, randomness, 10 * 69, key_pile + key_piled,
                                               sizeof key_pile - key_piled).a;
     struct { const char *name; void (*f)(void); } calls[] = {
         {"titmeadow_plan", plan}, {"titmeadow_deal", deal}, {"titmeadow_join", join}, {"titmeadow_join_by_differences", join_by_differences},

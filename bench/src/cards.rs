@@ -14,12 +14,12 @@ pub fn example_1() -> Vec<u16> {
     [&[1, 2, 5, 6][..], &[2, 3, 5, 6], &[2, 4, 5, 6], &[3, 4, 5, 6], &[1, 2, 3, 4, 5], &[1, 2, 3, 4, 6]].map(set).to_vec()
 }
 
-/// A deal among so many people, with randomness from the seed.
-pub fn deal_of(people: usize, required: Vec<u16>, number: usize, secret: &[u16], seed: u64) -> Deal {
+/// A deal among so many people, of this number and year, with randomness from the seed.
+pub fn deal_of(people: usize, required: Vec<u16>, (number, year): (usize, usize), secret: &[u16], seed: u64) -> Deal {
     let k = plan(people, &required, &[]).expect("an accepted policy").len();
     let mut n = Numbers::new(seed);
     let random = (0..secret.len() * (k - 1)).map(|_| n.word()).collect();
-    Deal { people, required, forbidden: Vec::new(), number, secret: secret.to_vec(), random }
+    Deal { people, required, forbidden: Vec::new(), number, year, secret: secret.to_vec(), random }
 }
 
 /// A holder's card as the proved library deals it; the independent implementation must write the same bytes.
@@ -31,15 +31,31 @@ pub fn dealt(d: &Deal, holder: usize) -> Vec<u8> {
     out
 }
 
-/// The files of samples/ that are dealt: the six cards of a deal by Example 1, a pile of four of them with one dirty slot, and holder 2's card of
-/// an earlier deal by the same policy.
+/// The deal of the sample cards, by Example 1, in a year.
+fn sampled(year: usize) -> Deal {
+    deal_of(6, example_1(), (1987, year), &[1234, 0, 32748, 5678], 7)
+}
+
+/// The holders whose cards of the former layout are kept in samples/.
+pub const EARLIER: [usize; 4] = [1, 2, 5, 6];
+
+/// The files of samples/ that are dealt: the six cards of a deal of 2026, a pile of four of them with one dirty slot, one in which the second
+/// of the four is of year 0 and alike in all else, and holder 2's card of an earlier deal by the same policy.
 pub fn samples() -> Vec<(String, Vec<u8>)> {
-    let d = deal_of(6, example_1(), 1987, &[1234, 0, 32748, 5678], 7);
+    let d = sampled(2026);
     let mut files: Vec<_> = (1..=6).map(|holder| (format!("card{holder}"), dealt(&d, holder))).collect();
     let mut pile = [1, 2, 5, 6].map(|holder| dealt(&d, holder)).concat();
     with_word(&mut pile[4 * BLOCK..5 * BLOCK], 9, 32767, false);
     files.push(("dirty".to_string(), pile));
-    let earlier = deal_of(6, example_1(), 1986, &[4321, 0, 1, 8765], 8);
+    let years = [(1, 2026), (2, 0), (5, 2026), (6, 2026)].map(|(holder, year)| dealt(&sampled(year), holder));
+    files.push(("two_years".to_string(), years.concat()));
+    let earlier = deal_of(6, example_1(), (1986, 0), &[4321, 0, 1, 8765], 8);
     files.push(("old2".to_string(), dealt(&earlier, 2)));
     files
+}
+
+/// The cards of the former layout, which were written when blocks had no year and are kept as they were: what the dealer writes in their
+/// place today, under year 0.
+pub fn earlier() -> Vec<(String, Vec<u8>)> {
+    EARLIER.map(|holder| (format!("earlier{holder}"), dealt(&sampled(0), holder))).to_vec()
 }

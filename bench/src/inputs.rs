@@ -50,6 +50,22 @@ pub fn policy(n: &mut Numbers) -> (usize, Vec<u16>, Vec<u16>) {
     (people, required, forbidden)
 }
 
+/// A year that is accepted: often 0, which cards of the former layout have, and often at an edge.
+pub fn year(n: &mut Numbers) -> usize {
+    match n.below(8) {
+        0..=2 => 0,
+        3 => 1,
+        4 => 2026,
+        5 => 32748,
+        _ => n.below(32749),
+    }
+}
+
+/// One that is not; some are accepted years in their low 16 or 32 bits.
+pub fn bad_year(n: &mut Numbers) -> usize {
+    [32749, 65535, 65536, 65536 + year(n), 1 << 40, (1 << 40) + year(n), usize::MAX][n.below(7)]
+}
+
 /// A deal that is accepted.
 pub fn good_deal(n: &mut Numbers) -> Deal {
     loop {
@@ -61,6 +77,7 @@ pub fn good_deal(n: &mut Numbers) -> Deal {
                 required,
                 forbidden,
                 number: 1 + n.below(32748),
+                year: year(n),
                 secret: (0..w).map(|_| n.word()).collect(),
                 random: (0..w * (groups.len() - 1)).map(|_| n.word()).collect(),
             };
@@ -95,13 +112,13 @@ pub fn with_word(block: &mut [u8], i: usize, value: u16, right: bool) {
 }
 
 /// One fault in a pile: one to three dirty slots of a block, a changed word with or without a right check, two wrong words of one header, another deal's block,
-/// a block whose values conflict, a torn end. The edges of a range come often.
+/// a block whose values conflict, a torn end, a word beside the year. The edges of a range come often.
 pub fn damage(n: &mut Numbers, d: &Deal, pile: &mut Vec<Vec<u8>>) {
     if pile.last().is_none_or(|block| block.len() < BLOCK) {
         return;
     }
     let at = n.below(pile.len());
-    match n.below(9) {
+    match n.below(10) {
         0 => {
             let slot = if n.once_in(8) { 32749 } else { 32749 + n.below(32787) as u16 };
             for _ in 0..1 + n.below(3) {
@@ -117,9 +134,10 @@ pub fn damage(n: &mut Numbers, d: &Deal, pile: &mut Vec<Vec<u8>>) {
             with_word(&mut pile[at], word, n.word(), true);
         }
         5 => {
-            let word = [2, 4, 5, 6][n.below(4)];
+            let word = [2, 4, 5, 6, 24][n.below(5)];
             let value = words_of(&pile[at])[word - 1];
-            with_word(&mut pile[at], word, if n.once_in(2) { value + 1 } else { value.saturating_sub(1).max(1) }, true);
+            let less = value.saturating_sub(1).max(if word == 24 { 0 } else { 1 });
+            with_word(&mut pile[at], word, if n.once_in(2) { value + 1 } else { less }, true);
         }
         6 => {
             let mut block = pile[at].clone();
@@ -133,6 +151,7 @@ pub fn damage(n: &mut Numbers, d: &Deal, pile: &mut Vec<Vec<u8>>) {
                 with_word(&mut pile[at], 1 + n.below(7), value, true);
             }
         }
+        8 => with_word(&mut pile[at], 23 + n.below(3), [1, 2026, 32748, n.word()][n.below(4)], true),
         _ => {
             let keep = n.below(BLOCK + 1);
             pile.last_mut().unwrap().truncate(keep);

@@ -2,53 +2,53 @@
 use crate::numbers::Numbers;
 use crate::reference::{bytes_of, check, words_of, Label};
 
-/// The words of a block that a label has, from 1, and the most that each may be; the least is 1.
-const WORDS: [(usize, u16); 4] = [(2, 32748), (4, 8), (5, 70), (6, 16)];
+/// The words of a block that a label has, from 1, and the least and the most that each may be.
+const WORDS: [(usize, u16, u16); 5] = [(2, 1, 32748), (4, 1, 8), (5, 1, 70), (6, 1, 16), (24, 0, 32748)];
 
-/// Words 2, 4, 5 and 6 of a block.
+/// Words 2, 4, 5, 6 and 24 of a block.
 pub fn label(block: &[u8]) -> Label {
     let words = words_of(block);
-    WORDS.map(|(i, _)| words[i - 1])
+    WORDS.map(|(i, _, _)| words[i - 1])
 }
 
-/// A true block made one of another deal, and true again: holder and piece are brought into range, and what is behind the values is 0.
+/// A true block made one of another deal, and true again: holder and piece are brought into range, and what is behind the values is 0,
+/// but for the year.
 pub fn relabel(block: &[u8], label: Label) -> Vec<u8> {
     let mut words = words_of(block);
-    for ((i, _), value) in WORDS.iter().zip(label) {
+    words[7 + label[3] as usize..255].fill(0);
+    for ((i, _, _), value) in WORDS.iter().zip(label) {
         words[i - 1] = value;
     }
     words[2] = words[2].min(words[3]);
     words[6] = words[6].min(words[4]);
-    let end = 7 + words[5] as usize;
-    words[end..255].fill(0);
     words[255] = check(&words);
     bytes_of(&words).to_vec()
 }
 
 /// Another value of word `at` of a label: a neighbour, one that differs in its high byte alone, or any.
 fn other(n: &mut Numbers, at: usize, value: u16) -> u16 {
-    let most = WORDS[at].1;
+    let (_, least, most) = WORDS[at];
     loop {
         let new = match n.below(4) {
             0 => value + 1,
-            1 => value - 1,
+            1 => value.wrapping_sub(1),
             2 => value ^ 256,
-            _ => 1 + n.below(most as usize) as u16,
+            _ => least + n.below((most - least) as usize + 1) as u16,
         };
-        if new != value && (1..=most).contains(&new) {
+        if new != value && (least..=most).contains(&new) {
             return new;
         }
     }
 }
 
-/// So many deals, the given one first, no two alike. A new one mostly differs in one word from one that is there already, and else in all four.
+/// So many deals, the given one first, no two alike. A new one mostly differs in one word from one that is there already, and else in all five.
 pub fn labels(n: &mut Numbers, first: Label, count: usize) -> Vec<Label> {
     let mut labels = vec![first];
     while labels.len() < count {
         let mut new = labels[n.below(labels.len())];
-        let alone = n.below(4);
+        let alone = n.below(5);
         let all = n.once_in(5);
-        for at in (0..4).filter(|at| all || *at == alone) {
+        for at in (0..5).filter(|at| all || *at == alone) {
             new[at] = other(n, at, new[at]);
         }
         if !labels.contains(&new) {

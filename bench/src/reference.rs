@@ -91,11 +91,12 @@ pub fn piece(word: u16, coefficients: &[u16], j: usize) -> u16 {
     ((value * j as u64 + word as u64) % P) as u16
 }
 
-/// The 256 words of a block from its first seven and its values.
-pub fn block_words(head: [u16; 7], values: &[u16]) -> [u16; 256] {
+/// The 256 words of a block from its first seven, its values and its year, which is word 24.
+pub fn block_words(head: [u16; 7], values: &[u16], year: u16) -> [u16; 256] {
     let mut words = [0; 256];
     words[..7].copy_from_slice(&head);
     words[7..7 + values.len()].copy_from_slice(values);
+    words[23] = year;
     words[255] = check(&words);
     words
 }
@@ -130,15 +131,19 @@ pub struct Deal {
     pub required: Vec<u16>,
     pub forbidden: Vec<u16>,
     pub number: usize,
+    pub year: usize,
     pub secret: Vec<u16>,
     pub random: Vec<u16>,
 }
 
-/// Refusals 1 to 9 and 22: policy, deal number and holder are good. The group of each piece.
+/// Refusals 1 to 9, 22 and 25: policy, deal number, year and holder are good. The group of each piece.
 fn sound(d: &Deal, holder: usize) -> Result<Vec<u16>, Refusal> {
     let groups = plan(d.people, &d.required, &d.forbidden)?;
     if d.number == 0 || d.number > 32748 {
         return refuse(8, 0, 0);
+    }
+    if d.year > 32748 {
+        return refuse(25, 0, 0);
     }
     if holder == 0 || holder > d.people {
         return refuse(9, 0, 0);
@@ -173,7 +178,7 @@ pub fn deal(d: &Deal, holder: usize, out: &mut [u8]) -> Result<usize, Refusal> {
             values[i] = piece(d.secret[i], &d.random[i * (k - 1)..(i + 1) * (k - 1)], *j);
         }
         let head = [1987, d.number as u16, holder as u16, d.people as u16, k as u16, w as u16, *j as u16];
-        block.copy_from_slice(&bytes_of(&block_words(head, &values[..w])));
+        block.copy_from_slice(&bytes_of(&block_words(head, &values[..w], d.year as u16)));
     }
     Ok(pieces.len())
 }
@@ -193,7 +198,8 @@ fn wrong(words: &[u16; 256]) -> Option<usize> {
     if let Some(at) = right.iter().position(|right| !right) {
         return Some(at + 1);
     }
-    (8 + word(6) as usize..=255).find(|i| word(*i) != 0)
+    // behind the values all is 0, but for the year, which may be anything that can be read
+    (8 + word(6) as usize..=255).find(|i| *i != 24 && word(*i) != 0)
 }
 
 /// Refusals 15, 16 and 17 of block a.
@@ -222,9 +228,9 @@ pub fn open(pile: &[u8]) -> Result<[u16; 7], Refusal> {
     Ok(head)
 }
 
-/// What the checks of joining leave of a pile: the words 1 to 23 of its blocks, which block is the first of each piece, and w.
+/// What the checks of joining leave of a pile: the words 1 to 24 of its blocks, which block is the first of each piece, and w.
 struct Complete {
-    blocks: Vec<[u16; 23]>,
+    blocks: Vec<[u16; 24]>,
     first: Vec<usize>,
     w: usize,
 }
@@ -244,25 +250,25 @@ fn complete(pile: &[u8], room: usize) -> Result<Complete, Refusal> {
     if pile.len() / BLOCK > 560 {
         return refuse(14, 0, 0);
     }
-    let mut blocks: Vec<[u16; 23]> = Vec::with_capacity(pile.len() / BLOCK);
+    let mut blocks: Vec<[u16; 24]> = Vec::with_capacity(pile.len() / BLOCK);
     for (at, block) in pile.chunks_exact(BLOCK).enumerate() {
         let words = words_of(block);
         check_block(&words, at + 1)?;
-        let mut front = [0; 23];
-        front.copy_from_slice(&words[..23]);
+        let mut front = [0; 24];
+        front.copy_from_slice(&words[..24]);
         blocks.push(front);
     }
     if blocks.is_empty() {
         return refuse(20, 0, 0);
     }
-    let label = |block: &[u16; 23]| [block[1], block[3], block[4], block[5]];
+    let label = |block: &[u16; 24]| [block[1], block[3], block[4], block[5], block[23]];
     if blocks.iter().any(|block| label(block) != label(&blocks[0])) {
         let labels: Vec<Label> = blocks.iter().map(label).collect();
         let at = outside(&labels).expect("a block outside the largest heap, where two are unlike");
         return refuse(18, at + 1, 0);
     }
     let (k, w) = (blocks[0][4] as usize, blocks[0][5] as usize);
-    let values = |block: &[u16; 23]| <[u16; 16]>::try_from(&block[7..23]).unwrap();
+    let values = |block: &[u16; 24]| <[u16; 16]>::try_from(&block[7..23]).unwrap();
     let mut earlier: Vec<Vec<usize>> = vec![Vec::new(); k];
     for (at, block) in blocks.iter().enumerate() {
         let same = &mut earlier[block[6] as usize - 1];

@@ -12,15 +12,16 @@ fn slot(n: &mut Numbers) -> u16 {
     }
 }
 
-/// A word of a block, by its kind: the check, one of the seven in front, a value, one of those that are 0, the last before the check, any.
+/// A word of a block, by its kind: the check, one of the seven in front, a value, one of those that are 0, the last before the check, the year, any.
 fn word(n: &mut Numbers, block: &[u8]) -> usize {
     let w = (words_of(block)[5] as usize).clamp(1, 16);
-    match n.below(8) {
+    match n.below(9) {
         0 => 256,
         1 | 2 => 1 + n.below(7),
         3 | 4 => 8 + n.below(w),
         5 => 8 + w + n.below(248 - w),
         6 => 255,
+        7 => 24,
         _ => 1 + n.below(256),
     }
 }

@@ -56,9 +56,9 @@ pub fn salvage(pile: &mut [u8], list: &mut [u16]) -> Result<usize, Refusal> {
     calls::salvage(pile, list).result()
 }
 
-/// The sum of two blocks under this number into the front of `out`; how many blocks it is.
-pub fn add(one: &[u8], two: &[u8], number: usize, out: &mut [u8]) -> Result<usize, Refusal> {
-    calls::add(one, two, number, out).result()
+/// The sum of two blocks under this number and year into the front of `out`; how many blocks it is.
+pub fn add(one: &[u8], two: &[u8], number: usize, year: usize, out: &mut [u8]) -> Result<usize, Refusal> {
+    calls::add(one, two, number, year, out).result()
 }
 
 /// A key's ten words into `words`; how many they are.

@@ -9,7 +9,7 @@ use bench::unit;
 const JOINERS: [fn(&[u8], &mut [u16]) -> Result<usize, Refusal>; 2] = [unit::join, unit::join_by_differences];
 
 fn p7() -> Deal {
-    Deal { people: 4, required: vec![3, 6, 12], forbidden: vec![9], number: 7, secret: vec![1234], random: vec![5, 7] }
+    Deal { people: 4, required: vec![3, 6, 12], forbidden: vec![9], number: 7, year: 0, secret: vec![1234], random: vec![5, 7] }
 }
 
 fn refused(number: usize, a: usize, b: usize) -> Result<usize, Refusal> {
@@ -102,8 +102,8 @@ fn the_first_dirty_slot_is_named() {
 #[test]
 fn the_block_outside_the_own_heap() {
     let three = blocks(&p7(), 3);
-    let is = |what: &str, heaps: &[usize], other: [u16; 4], a: usize| {
-        let labels = [[7, 4, 3, 1], other, [7, 8, 3, 1]];
+    let is = |what: &str, heaps: &[usize], other: [u16; 5], a: usize| {
+        let labels = [[7, 4, 3, 1, 0], other, [7, 8, 3, 1, 0]];
         let pile: Vec<u8> = heaps.iter().enumerate().flat_map(|(at, heap)| relabel(&three[at % 3], labels[*heap])).collect();
         for join in JOINERS {
             let mut out = [9; 2];
@@ -111,8 +111,9 @@ fn the_block_outside_the_own_heap() {
             assert_eq!(out, [9; 2]);
         }
     };
-    // the deal number, by its low byte and by its high one; n, k and w, up and down
-    for other in [[8, 4, 3, 1], [263, 4, 3, 1], [7, 5, 3, 1], [7, 2, 3, 1], [7, 4, 70, 1], [7, 4, 3, 2], [7, 4, 3, 16]] {
+    // the deal number, by its low byte and by its high one; n, k and w, up and down; the year, by either byte and as large as can be
+    let others = [[8, 4, 3, 1, 0], [263, 4, 3, 1, 0], [7, 5, 3, 1, 0], [7, 2, 3, 1, 0], [7, 4, 70, 1, 0], [7, 4, 3, 2, 0], [7, 4, 3, 16, 0]];
+    for other in others.into_iter().chain([1, 256, 2026, 32748].map(|year| [7, 4, 3, 1, year])) {
         is("an old card on top", &[1, 0, 0], other, 1);
         is("an old card in the middle", &[0, 1, 0], other, 2);
         is("an old card at the end", &[0, 0, 1], other, 3);
@@ -124,18 +125,18 @@ fn the_block_outside_the_own_heap() {
         is("three blocks, three deals", &[0, 1, 2], other, 2);
     }
     let heaps = |front: usize, back: usize| [vec![1; front], vec![0; back]].concat();
-    is("280 and 280", &heaps(280, 280), [8, 4, 3, 1], 281);
-    is("279 and 281", &heaps(279, 281), [8, 4, 3, 1], 1);
-    is("281 and 279", &heaps(281, 279), [8, 4, 3, 1], 282);
+    is("280 and 280", &heaps(280, 280), [8, 4, 3, 1, 0], 281);
+    is("279 and 281", &heaps(279, 281), [8, 4, 3, 1, 0], 1);
+    is("281 and 279", &heaps(281, 279), [8, 4, 3, 1, 0], 282);
     // 300 in a byte would be 44
-    is("250 and 300", &heaps(250, 300), [8, 4, 3, 1], 1);
-    is("300 and 250", &heaps(300, 250), [8, 4, 3, 1], 301);
+    is("250 and 300", &heaps(250, 300), [8, 4, 3, 1, 0], 1);
+    is("300 and 250", &heaps(300, 250), [8, 4, 3, 1, 0], 301);
 }
 
 #[test]
 fn as_many_deals_as_blocks() {
     let three = blocks(&p7(), 3);
-    let pile: Vec<u8> = (0..560).flat_map(|at| relabel(&three[at % 3], [1 + at as u16, 4, 3, 1])).collect();
+    let pile: Vec<u8> = (0..560).flat_map(|at| relabel(&three[at % 3], [1 + at as u16, 4, 3, 1, 2026])).collect();
     // a block of deal 559, which is there already: the one heap of two, which begins with block 1, or else with block 559
     let (most, again) = (&pile[..559 * BLOCK], &pile[558 * BLOCK..559 * BLOCK]);
     for join in JOINERS {
@@ -165,11 +166,11 @@ fn a_set_of_one_and_of_two() {
 /// No deal has one piece any more, but a card of such a deal, made earlier, is a true one and joins as it did.
 #[test]
 fn a_card_of_one_piece() {
-    let d = Deal { people: 1, required: vec![1], forbidden: vec![], number: 7, secret: vec![1234, 5678], random: vec![] };
+    let d = Deal { people: 1, required: vec![1], forbidden: vec![], number: 7, year: 0, secret: vec![1234, 5678], random: vec![] };
     let mut out = [9; BLOCK];
     assert_eq!(unit::deal(&d, 1, &mut out), refused(22, 1, 0));
     assert_eq!(out, [9; BLOCK]);
-    let card = bytes_of(&block_words([1987, 7, 1, 1, 1, 2, 1], &d.secret));
+    let card = bytes_of(&block_words([1987, 7, 1, 1, 1, 2, 1], &d.secret, 0));
     let mut out = [9; 3];
     assert_eq!(unit::join(&card, &mut out), Ok(2));
     assert_eq!(out, [1234, 5678, 9]);
@@ -177,7 +178,7 @@ fn a_card_of_one_piece() {
 
 #[test]
 fn a_holder_of_no_pieces() {
-    let d = Deal { people: 3, required: vec![3], forbidden: vec![], number: 1, secret: vec![7], random: vec![8] };
+    let d = Deal { people: 3, required: vec![3], forbidden: vec![], number: 1, year: 0, secret: vec![7], random: vec![8] };
     assert_eq!(unit::deal(&d, 3, &mut []), Ok(0));
     assert!(card(&d, 3).is_empty());
 }

@@ -74,16 +74,16 @@ fn edges() {
     }
 }
 
-/// A key that is not of 16 bytes beside each other fault: 10 with a = 0 behind 1 to 9 and 22, and before 11 and 12.
+/// A key that is not of 16 bytes beside each other fault: 10 with a = 0 behind 1 to 9, 22 and 25, and before 11 and 12.
 #[test]
 fn a_bad_key_in_its_place() {
-    let good = Deal { people: 4, required: vec![3, 6, 12], forbidden: vec![9], number: 7, secret: vec![], random: vec![5; 20] };
+    let good = Deal { people: 4, required: vec![3, 6, 12], forbidden: vec![9], number: 7, year: 0, secret: vec![], random: vec![5; 20] };
     let with = |change: fn(&mut Deal)| {
         let mut d = good.clone();
         change(&mut d);
         d
     };
-    let before: [(Deal, usize, Refusal); 11] = [
+    let before: [(Deal, usize, Refusal); 14] = [
         (with(|d| d.people = 0), 2, Refusal { number: 1, a: 0, b: 0 }),
         (with(|d| d.forbidden = vec![9; 257]), 2, Refusal { number: 2, a: 2, b: 0 }),
         (with(|d| d.required.push(16)), 2, Refusal { number: 3, a: 1, b: 4 }),
@@ -93,6 +93,9 @@ fn a_bad_key_in_its_place() {
         (with(|d| d.forbidden.push(7)), 2, Refusal { number: 6, a: 1, b: 2 }),
         (with(|d| d.number = 0), 2, Refusal { number: 8, a: 0, b: 0 }),
         (with(|d| d.number = 32749), 2, Refusal { number: 8, a: 0, b: 0 }),
+        (with(|d| (d.number, d.year) = (0, 32749)), 2, Refusal { number: 8, a: 0, b: 0 }),
+        (with(|d| d.year = 32749), 2, Refusal { number: 25, a: 0, b: 0 }),
+        (with(|d| d.year = 1 << 40), 5, Refusal { number: 25, a: 0, b: 0 }),
         (good.clone(), 0, Refusal { number: 9, a: 0, b: 0 }),
         (good.clone(), 5, Refusal { number: 9, a: 0, b: 0 }),
     ];

@@ -95,8 +95,9 @@ fn deal_for(n: &mut Numbers, secret: Vec<u16>) -> Deal {
 
 /// One argument made bad, but for policy and key.
 fn spoil(n: &mut Numbers, d: &mut Deal, holder: &mut usize) {
-    match n.below(5) {
+    match n.below(6) {
         0 => d.number = [0, 32749, 65536, usize::MAX][n.below(4)],
+        5 => d.year = inputs::bad_year(n),
         1 => *holder = [0, d.people.wrapping_add(1), usize::MAX][n.below(3)],
         2 => d.random.push(1),
         3 => d.random.truncate(d.random.len() - 1),
@@ -130,7 +131,7 @@ fn deals_of_keys() {
         assert_eq!(said, expected, "{d:?} {key:?} {holder} {room}");
         assert!(ours == theirs, "the lent card differs: {d:?} {key:?} {holder} {room}");
     }
-    met.shows(&[0, 1, 2, 3, 4, 5, 6, 8, 9, 10, 11, 12, 22]);
+    met.shows(&[0, 1, 2, 3, 4, 5, 6, 8, 9, 10, 11, 12, 22, 25]);
 }
 
 /// The secret of a deal whose piles are joined to a key: a key's words; ten that may be none's; or a code of any length.
@@ -178,7 +179,7 @@ fn piles_to_keys() {
 #[test]
 fn every_group_of_six() {
     let key: [u8; 16] = std::array::from_fn(|i| (i * 37 + 200) as u8);
-    let d = deal_of(6, example_1(), 1987, &reference::pack(&key).unwrap(), 34);
+    let d = deal_of(6, example_1(), (1987, 2026), &reference::pack(&key).unwrap(), 34);
     let k = plan(6, &d.required, &[]).unwrap().len();
     let cards: Vec<Vec<u8>> = (1..=6)
         .map(|holder| {

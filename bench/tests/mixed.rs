@@ -19,7 +19,7 @@ const SHAPES: [&str; 9] = [
     "any heaps",
 ];
 
-const MET: [&str; 13] = [
+const MET: [&str; 14] = [
     "18 names block 1",
     "18 names a block in between",
     "18 names the last block",
@@ -31,6 +31,7 @@ const MET: [&str; 13] = [
     "18 by word 4 alone",
     "18 by word 5 alone",
     "18 by word 6 alone",
+    "18 by word 24 alone",
     "18, two heaps",
     "18, three heaps",
 ];
@@ -54,9 +55,9 @@ fn describe(kinds: &mut Kinds, labels: &[Label], a: usize) {
     match heaps.len() {
         2 => {
             kinds.note("18, two heaps");
-            let unlike: Vec<usize> = (0..4).filter(|at| heaps[0].0[*at] != heaps[1].0[*at]).collect();
+            let unlike: Vec<usize> = (0..5).filter(|at| heaps[0].0[*at] != heaps[1].0[*at]).collect();
             if let [at] = unlike[..] {
-                kinds.note(format!("18 by word {} alone", [2, 4, 5, 6][at]));
+                kinds.note(format!("18 by word {} alone", [2, 4, 5, 6, 24][at]));
             }
         }
         3 => kinds.note("18, three heaps"),

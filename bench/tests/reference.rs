@@ -3,7 +3,7 @@ use bench::numbers::Numbers;
 use bench::reference::*;
 
 fn p11() -> Deal {
-    Deal { people: 4, required: vec![3, 6, 12], forbidden: vec![9], number: 7, secret: vec![1234], random: vec![5, 7] }
+    Deal { people: 4, required: vec![3, 6, 12], forbidden: vec![9], number: 7, year: 0, secret: vec![1234], random: vec![5, 7] }
 }
 
 fn card(d: &Deal, holder: usize) -> Vec<u8> {
@@ -92,10 +92,27 @@ fn p11_and_p12() {
     assert_eq!(out, [1234, 9, 9]);
 }
 
+/// P11 in 2026: word 24 adds 24 times 2026, which is 48624, to the check of 12025, and 60649 less p is 27900.
+#[test]
+fn p11_in_2026() {
+    let d = Deal { year: 2026, ..p11() };
+    let mut want = words_of(&card(&p11(), 4));
+    (want[23], want[255]) = (2026, 27900);
+    assert_eq!(words_of(&card(&d, 4)), want);
+    let mut out = [9; 2];
+    assert_eq!((join(&[card(&d, 1), card(&d, 2)].concat(), &mut out), out), (Ok(1), [1234, 9]));
+    // alike in all but the year, values too
+    let pile = [card(&d, 1), card(&p11(), 2)].concat();
+    assert_eq!(join(&pile, &mut out), Err(Refusal { number: 18, a: 1, b: 0 }));
+    for (year, said) in [(0, Ok(1)), (32748, Ok(1)), (32749, Err(25)), (65536, Err(25)), (1 << 40, Err(25))] {
+        assert_eq!(deal(&Deal { year, ..p11() }, 4, &mut [0; BLOCK]).map_err(|r| r.number), said);
+    }
+}
+
 /// Of which deal each block of a pile is, and which block, from 0, is the first outside the own heap. The pile of one deal has none.
 #[test]
 fn heaps_and_the_first_block_outside() {
-    let of = |numbers: &[u16]| outside(&numbers.iter().map(|number| [*number, 4, 3, 1]).collect::<Vec<_>>());
+    let of = |numbers: &[u16]| outside(&numbers.iter().map(|number| [*number, 4, 3, 1, 2026]).collect::<Vec<_>>());
     assert_eq!(of(&[]), None);
     assert_eq!(of(&[7, 7, 7]), None);
     // an old card on top, in the middle, at the end
@@ -111,9 +128,9 @@ fn heaps_and_the_first_block_outside() {
     assert_eq!(of(&[8, 9, 7, 7]), Some(0));
     assert_eq!(of(&[7, 8, 9, 7]), Some(1));
     assert_eq!(of(&[6, 7, 8, 9]), Some(1));
-    // each of the four words tells heaps apart
-    let one: Label = [7, 4, 3, 1];
-    for at in 0..4 {
+    // each of the five words tells heaps apart
+    let one: Label = [7, 4, 3, 1, 2026];
+    for at in 0..5 {
         let mut other = one;
         other[at] += 1;
         assert_eq!(outside(&[other, one, one]), Some(0));
@@ -163,11 +180,14 @@ fn salvaged_with_another_fault() {
         let said = salvage(&mut pile, &mut list);
         (words_of(&pile) == words, words_of(&pile), said, list)
     };
-    // value 1247 for 1246: word 9 would have to be -8/9, and word 7 -1/7, which is 23392; neither may be, and all stays
-    for lost in [9, 7] {
+    // value 1247 for 1246: words 9 and 25 would have to be -8/9 and -8/25, and word 7 -1/7, which is 23392; none may be, and all stays
+    for lost in [9, 25, 7] {
         let (same, _, said, list) = salvaged(&[(8, 1247), (lost, 32767)]);
         assert_eq!((same, said, list), (true, Ok(0), [9, 9]));
     }
+    // but word 24 may be -8/24, which is -1/3 and so 10916, since 3 times that is p - 1
+    let (_, words, said, list) = salvaged(&[(8, 1247), (24, 32767)]);
+    assert_eq!((words[23], words[255], said, list), (10916, 12025, Ok(1), [1, 24]));
     // holder 3 for 4: the value would have to be (12025 - 2054)/8, which is 5340; that is a true block, though it is not the one dealt
     let (_, words, said, list) = salvaged(&[(3, 3), (8, 32767)]);
     assert_eq!((words[2], words[7], words[255], said, list), (3, 5340, 12025, Ok(1), [1, 8]));
@@ -202,7 +222,15 @@ fn p11_renewed() {
         let (old, zero) = (card(&p11(), holder), card(&zeros, holder));
         let blocks = old.chunks(BLOCK).zip(zero.chunks(BLOCK)).map(|(one, two)| {
             let mut out = [9; BLOCK];
-            assert_eq!(add(one, two, 9, &mut out), Ok(1));
+            assert_eq!(add(one, two, 9, 0, &mut out), Ok(1));
+            // the old number in a new year: 7 for 9 in word 2, and 24 times 2026 more
+            let mut again = [9; BLOCK];
+            assert_eq!(add(one, two, 7, 2026, &mut again), Ok(1));
+            let mut want = words_of(&out);
+            (want[1], want[23]) = (7, 2026);
+            want[255] = ((want[255] as u64 + P - 4 + 48624) % P) as u16;
+            assert_eq!(words_of(&again), want);
+            assert_eq!(add(one, two, 7, 0, &mut again), Err(Refusal { number: 8, a: 0, b: 0 }));
             out
         });
         blocks.collect::<Vec<_>>()

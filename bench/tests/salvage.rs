@@ -7,12 +7,15 @@ use bench::reference::{self, words_of, BLOCK};
 use bench::scratched::{self, Fate};
 use bench::unit;
 
-const MET: [&str; 14] = [
+const MET: [&str; 17] = [
     "a block without a dirty word",
     "a block with two dirty words or more",
     "word 1 to 7 rebuilt",
     "a value rebuilt",
     "a word of 0 rebuilt",
+    "word 24 rebuilt, to 0",
+    "word 24 rebuilt, to another year",
+    "word 24 rebuilt, though another word was wrong",
     "word 255 rebuilt",
     "word 256 rebuilt",
     "put back, of words 1 to 7",
@@ -37,6 +40,8 @@ fn describe(kinds: &mut Kinds, before: &[u8], after: &[u8], fate: Fate) {
         (false, 1..=7) => "word 1 to 7 rebuilt",
         (false, 255) => "word 255 rebuilt",
         (false, 256) => "word 256 rebuilt",
+        (false, 24) if new[23] == 0 => "word 24 rebuilt, to 0",
+        (false, 24) => "word 24 rebuilt, to another year",
         (false, i) if i <= 7 + new[5] as usize => "a value rebuilt",
         (false, _) => "a word of 0 rebuilt",
         (true, 1..=7) => "put back, of words 1 to 7",
@@ -45,6 +50,9 @@ fn describe(kinds: &mut Kinds, before: &[u8], after: &[u8], fate: Fate) {
     });
     if old != new && fate == Fate::Other {
         kinds.note("rebuilt, though it was not good before");
+        if i == 24 {
+            kinds.note("word 24 rebuilt, though another word was wrong");
+        }
     }
 }
 

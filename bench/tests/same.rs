@@ -28,8 +28,9 @@ fn policies() {
 
 /// One argument made bad, or two.
 fn spoil(n: &mut Numbers, d: &mut Deal, holder: &mut usize) {
-    match n.below(8) {
+    match n.below(9) {
         0 => d.number = [0, 32749, 65536, usize::MAX][n.below(4)],
+        8 => d.year = inputs::bad_year(n),
         1 => *holder = [0, d.people + 1, usize::MAX][n.below(3)],
         2 => d.secret.clear(),
         3 => d.secret.resize(17 + n.below(3), 7),
@@ -78,7 +79,7 @@ fn deals() {
         assert_eq!(said, expected, "{d:?} {holder} {room}");
         assert!(ours == theirs, "the lent card differs: {d:?} {holder} {room}");
     }
-    met.shows(&[0, 1, 2, 3, 4, 5, 6, 8, 9, 10, 11, 12, 22]);
+    met.shows(&[0, 1, 2, 3, 4, 5, 6, 8, 9, 10, 11, 12, 22, 25]);
 }
 
 #[test]

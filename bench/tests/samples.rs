@@ -1,7 +1,8 @@
 //! The files of samples/ are, byte for byte, what the proved dealer writes, the policy text there is the one that they were dealt by, and what
-//! README's walk shows of them is so.
-use bench::cards::{example_1, samples};
-use bench::reference::{joining, read_policy, salvaging};
+//! README's walk shows of them is so. The cards of the former layout join as they did.
+use bench::cards::{earlier, example_1, samples, EARLIER};
+use bench::reference::{joining, read_policy, salvaging, words_of, BLOCK};
+use bench::unit;
 use std::path::{Path, PathBuf};
 
 fn folder() -> PathBuf {
@@ -10,7 +11,7 @@ fn folder() -> PathBuf {
 
 #[test]
 fn dealt_again() {
-    let files = samples();
+    let files = [samples(), earlier()].concat();
     for (name, bytes) in &files {
         assert!(std::fs::read(folder().join(name)).unwrap() == *bytes, "samples/{name} is not what the proved dealer writes");
     }
@@ -42,4 +43,36 @@ fn the_walk() {
     says(&["old2", "card1", "card5", "card6"], "refused 18 1 0\n");
     says(&["card1", "old2", "card5", "card6"], "refused 18 4 0\n");
     says(&["card1", "card5", "card6", "old2"], "refused 18 14 0\n");
+    // holder 2's card, alike in all but its year
+    says(&["two_years"], "refused 18 4 0\n");
+    assert!(cat(&["two_years"]) == cat(&["card1", "earlier2", "card5", "card6"]));
+}
+
+/// The cards that are kept of the time when blocks had no year: 0 in word 24, and else the cards of 2026 but for the check. By both joiners they
+/// join as they did; some of them are SHORT, and with a card of 2026 they are MIXED.
+#[test]
+fn the_former_layout() {
+    let names = EARLIER.map(|holder| format!("earlier{holder}"));
+    for (name, holder) in names.iter().zip(EARLIER) {
+        let (old, new) = (cat(&[name]), cat(&[&format!("card{holder}")]));
+        assert_eq!(old.len(), new.len());
+        for (old, new) in old.chunks(BLOCK).zip(new.chunks(BLOCK)) {
+            let (mut words, new) = (words_of(old), words_of(new));
+            assert_eq!((words[23], new[23]), (0, 2026));
+            (words[23], words[255]) = (2026, new[255]);
+            assert_eq!(words, new);
+        }
+    }
+    let names = names.each_ref().map(|name| name.as_str());
+    for join in [unit::join, unit::join_by_differences] {
+        let mut out = [9; 5];
+        assert_eq!((join(&cat(&names), &mut out), out), (Ok(4), [1234, 0, 32748, 5678, 9]));
+        assert_eq!(join(&cat(&names[..2]), &mut out).map_err(|r| r.number), Err(20));
+        for at in 0..=4 {
+            let mut pile = names.to_vec();
+            pile.insert(at, "card3");
+            assert_eq!(join(&cat(&pile), &mut out).map_err(|r| r.number), Err(18));
+        }
+    }
+    assert_eq!(joining(&cat(&names)), b"secret 1234 0 32748 5678\n");
 }

@@ -1,6 +1,7 @@
 //! against SEED COUNT FOLDER COMMAND [ARGUMENT..]: a joining program beside target/run/join, which ./join runs, on the stored piles, on
-//! every group of the sample cards, on an old card among them and on COUNT random piles, good and damaged. Prints where the two differ and
+//! every group of the sample cards, on an old card among them, on cards without a year and on COUNT random piles, good and damaged. Prints where the two differ and
 //! keeps that pile in FOLDER; status 0 only where they never do. tools/against calls it, after ./join has built what it runs.
+use bench::cards::EARLIER;
 use bench::inputs;
 use bench::numbers::Numbers;
 use bench::reference::joining;
@@ -104,7 +105,7 @@ impl Trial {
 
 fn stored(top: &Path) -> Vec<PathBuf> {
     let files = std::fs::read_dir(top.join("crates/runs_join/data")).unwrap().map(|file| file.unwrap().path());
-    let mut files: Vec<PathBuf> = files.chain([top.join("samples/dirty")]).collect();
+    let mut files: Vec<PathBuf> = files.chain(["samples/dirty", "samples/two_years"].map(|file| top.join(file))).collect();
     files.sort();
     files
 }
@@ -125,7 +126,7 @@ fn main() {
         theirs: words[3..].to_vec(),
         ours: vec![at("tools/x86-64"), "run".to_string(), at("target/run/join")],
         folder: folder.clone(),
-        of: files.len() + 64 + 4 + count,
+        of: files.len() + 64 + 4 + 4 + count,
         piles: 0,
         differ: 0,
         answers: BTreeMap::new(),
@@ -147,6 +148,10 @@ fn main() {
         let mut pile = [1, 5, 6].map(|holder: usize| cards[holder - 1].clone()).to_vec();
         pile.insert(at, old.clone());
         trial.on(folder.join(format!("samples-old-behind-{at}")), &pile.concat());
+    }
+    let earlier = EARLIER.map(|holder| std::fs::read(top.join(format!("samples/earlier{holder}"))).unwrap());
+    for count in 1..=earlier.len() {
+        trial.on(folder.join(format!("samples-earlier-{count}")), &earlier[..count].concat());
     }
     let mut n = Numbers::new(seed);
     for at in 1..=count {

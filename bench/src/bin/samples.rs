@@ -1,4 +1,5 @@
-//! Writes the files of samples/ that are dealt. The policy texts there are written by hand; bench/tests/samples.rs compares all of them.
+//! Writes the files of samples/ that are dealt. The policy texts there are written by hand, and the cards of the former layout are kept as they
+//! were; bench/tests/samples.rs compares all of them.
 use bench::cards::samples;
 use std::path::Path;
 

@@ -26,7 +26,7 @@ fn main() {
     let (mut wrong, mut cards, mut bytes) = (0, 0, 0);
     for (at, (name, required)) in policies.into_iter().enumerate() {
         let secret = [4711, 815, 32748];
-        let d = deal_of(6, required, 100 + at, &secret, 11 + at as u64);
+        let d = deal_of(6, required, (100 + at, 2026), &secret, 11 + at as u64);
         let folder = top.join(format!("target/six{at}"));
         std::fs::create_dir_all(&folder).unwrap();
         for person in 1..=6 {

@@ -54,6 +54,7 @@ fn threshold(people: usize, least: u32) -> Deal {
         required,
         forbidden: Vec::new(),
         number: 7,
+        year: 2026,
         secret: secret(),
         random: (0..16 * (k - 1)).map(|i| (i * 7919 % 32749) as u16).collect(),
     }
@@ -173,16 +174,16 @@ fn add(blocks: &[Vec<u8>]) {
         ("refusing two blocks of unlike pieces", &blocks[1], Err(Refusal { number: 24, a: 7, b: 0 })),
     ] {
         let (mut ours, mut theirs) = ([0; BLOCK], [0; BLOCK]);
-        assert_eq!(unit::add(&blocks[0], two, 9, &mut ours), want);
-        assert_eq!(reference::add(&blocks[0], two, 9, &mut theirs), want);
+        assert_eq!(unit::add(&blocks[0], two, 9, 2026, &mut ours), want);
+        assert_eq!(reference::add(&blocks[0], two, 9, 2026, &mut theirs), want);
         assert_eq!(ours, theirs);
         compare(
             name,
             || {
-                black_box(unit::add(black_box(&blocks[0]), two, 9, &mut ours)).ok();
+                black_box(unit::add(black_box(&blocks[0]), two, 9, 2026, &mut ours)).ok();
             },
             || {
-                black_box(reference::add(black_box(&blocks[0]), two, 9, &mut theirs)).ok();
+                black_box(reference::add(black_box(&blocks[0]), two, 9, 2026, &mut theirs)).ok();
             },
         );
     }
@@ -191,7 +192,7 @@ fn add(blocks: &[Vec<u8>]) {
 /// Mixed piles as large as can be, all blocks true, up to MIXED: 560 deals of a block each, and two heaps of 280 whose blocks take turns.
 fn mixed() {
     let values = secret();
-    let of_deal = |deal: u16, j: u16| bytes_of(&block_words([1987, deal, 1, 8, 70, 16, j], &values));
+    let of_deal = |deal: u16, j: u16| bytes_of(&block_words([1987, deal, 1, 8, 70, 16, j], &values, 2026));
     let unlike: Vec<u8> = (0..560).flat_map(|i| of_deal(1 + i, 1 + i % 70)).collect();
     let turns: Vec<u8> = (0..560).flat_map(|i| of_deal(1 + i % 2, 1 + i % 70)).collect();
     for (name, pile) in [("refusing 560 blocks, no two of one deal", unlike), ("refusing 560 blocks, two heaps of 280", turns)] {
@@ -203,7 +204,7 @@ fn mixed() {
 /// One block of each of k pieces, of sixteen words; any values are pieces of some secret.
 fn any_pieces(k: usize) -> Vec<u8> {
     let values = |j: usize| (0..16).map(|i| ((i * 7919 + j * j * 2047) % 32749) as u16).collect::<Vec<u16>>();
-    (1..=k).flat_map(|j| reference::bytes_of(&reference::block_words([1987, 7, 1, 8, k as u16, 16, j as u16], &values(j)))).collect()
+    (1..=k).flat_map(|j| reference::bytes_of(&reference::block_words([1987, 7, 1, 8, k as u16, 16, j as u16], &values(j), 2026))).collect()
 }
 
 /// The two joiners side by side, for each number of pieces.
@@ -267,7 +268,7 @@ fn main() {
     for blocks in [70, 140, 280] {
         join(&format!("joining {blocks} blocks of 70 pieces"), &many[..blocks * BLOCK]);
     }
-    join("joining 1 blocks of 1 pieces", &bytes_of(&block_words([1987, 7, 1, 1, 1, 16, 1], &secret())));
+    join("joining 1 blocks of 1 pieces", &bytes_of(&block_words([1987, 7, 1, 1, 1, 16, 1], &secret(), 2026)));
     for (people, least) in [(3, 2), (4, 3), (5, 3), (6, 4), (7, 4)] {
         let d = threshold(people, least);
         let pile = pieces(&d).concat();

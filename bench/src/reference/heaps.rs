@@ -1,8 +1,8 @@
 //! Which deal a pile is of (SCOPE 6.3, MIXED): its blocks lie in heaps, one for each deal, and the largest is the pile's own.
 use std::cmp::Reverse;
 
-/// What tells deals apart: words 2, 4, 5 and 6 of a block.
-pub type Label = [u16; 4];
+/// What tells deals apart: words 2, 4, 5, 6 and 24 of a block.
+pub type Label = [u16; 5];
 
 /// The heaps of a pile in the order of their first blocks: which deal each is of, and how many blocks it has.
 pub fn heaps(labels: &[Label]) -> Vec<(Label, usize)> {

@@ -18,6 +18,7 @@ extern "C" {
         forbidden: *const u16,
         forbidden_count: usize,
         deal: usize,
+        year: usize,
         holder: usize,
         secret: *const u16,
         words: usize,
@@ -36,6 +37,7 @@ extern "C" {
         two: *const u8,
         two_length: usize,
         deal: usize,
+        year: usize,
         block: *mut u8,
         room: usize,
     ) -> Answer;
@@ -48,6 +50,7 @@ extern "C" {
         forbidden: *const u16,
         forbidden_count: usize,
         deal: usize,
+        year: usize,
         holder: usize,
         key: *const u8,
         length: usize,
@@ -72,6 +75,7 @@ pub fn deal(d: &Deal, holder: usize, out: &mut [u8]) -> Answer {
             d.forbidden.as_ptr(),
             d.forbidden.len(),
             d.number,
+            d.year,
             holder,
             d.secret.as_ptr(),
             d.secret.len(),
@@ -99,8 +103,8 @@ pub fn salvage(pile: &mut [u8], list: &mut [u16]) -> Answer {
     unsafe { titmeadow_salvage(pile.as_mut_ptr(), pile.len(), list.as_mut_ptr(), list.len()) }
 }
 
-pub fn add(one: &[u8], two: &[u8], number: usize, out: &mut [u8]) -> Answer {
-    unsafe { titmeadow_add(one.as_ptr(), one.len(), two.as_ptr(), two.len(), number, out.as_mut_ptr(), out.len()) }
+pub fn add(one: &[u8], two: &[u8], number: usize, year: usize, out: &mut [u8]) -> Answer {
+    unsafe { titmeadow_add(one.as_ptr(), one.len(), two.as_ptr(), two.len(), number, year, out.as_mut_ptr(), out.len()) }
 }
 
 pub fn pack(key: &[u8], words: &mut [u16; 10]) -> Answer {
@@ -120,6 +124,7 @@ pub fn deal_key(d: &Deal, key: &[u8], holder: usize, out: &mut [u8]) -> Answer {
             d.forbidden.as_ptr(),
             d.forbidden.len(),
             d.number,
+            d.year,
             holder,
             key.as_ptr(),
             key.len(),

@@ -24,7 +24,7 @@ impl Served {
         Served { child, asks, says }
     }
 
-    fn ask(&mut self, call: u64, numbers: [usize; 3], lists: [&[u8]; 4], out: &mut [u8]) -> Answer {
+    fn ask(&mut self, call: u64, numbers: [usize; 4], lists: [&[u8]; 4], out: &mut [u8]) -> Answer {
         let asks = self.asks.as_mut().unwrap();
         let mut number = |n: u64| asks.write_all(&n.to_le_bytes()).unwrap();
         number(call);
@@ -53,7 +53,7 @@ thread_local! {
     static SERVED: RefCell<Served> = RefCell::new(Served::start());
 }
 
-fn ask(call: u64, numbers: [usize; 3], lists: [&[u8]; 4], out: &mut [u8]) -> Answer {
+fn ask(call: u64, numbers: [usize; 4], lists: [&[u8]; 4], out: &mut [u8]) -> Answer {
     SERVED.with(|served| served.borrow_mut().ask(call, numbers, lists, out))
 }
 
@@ -61,7 +61,7 @@ fn bytes(words: &[u16]) -> Vec<u8> {
     words.iter().flat_map(|word| word.to_le_bytes()).collect()
 }
 
-fn ask_words(call: u64, numbers: [usize; 3], lists: [&[u8]; 4], out: &mut [u16]) -> Answer {
+fn ask_words(call: u64, numbers: [usize; 4], lists: [&[u8]; 4], out: &mut [u16]) -> Answer {
     let mut lent = bytes(out);
     let said = ask(call, numbers, lists, &mut lent);
     for (word, pair) in out.iter_mut().zip(lent.chunks_exact(2)) {
@@ -71,31 +71,31 @@ fn ask_words(call: u64, numbers: [usize; 3], lists: [&[u8]; 4], out: &mut [u16])
 }
 
 pub fn plan(people: usize, required: &[u16], forbidden: &[u16], groups: &mut [u16; 70]) -> Answer {
-    ask_words(1, [people, 0, 0], [&bytes(required), &bytes(forbidden), &[], &[]], groups)
+    ask_words(1, [people, 0, 0, 0], [&bytes(required), &bytes(forbidden), &[], &[]], groups)
 }
 
 pub fn deal(d: &Deal, holder: usize, out: &mut [u8]) -> Answer {
     let lists = [&d.required, &d.forbidden, &d.secret, &d.random].map(|words| bytes(words));
-    ask(2, [d.people, d.number, holder], [&lists[0], &lists[1], &lists[2], &lists[3]], out)
+    ask(2, [d.people, d.number, d.year, holder], [&lists[0], &lists[1], &lists[2], &lists[3]], out)
 }
 
 pub fn join(pile: &[u8], out: &mut [u16]) -> Answer {
-    ask_words(3, [0; 3], [pile, &[], &[], &[]], out)
+    ask_words(3, [0; 4], [pile, &[], &[], &[]], out)
 }
 
 pub fn join_by_differences(pile: &[u8], out: &mut [u16]) -> Answer {
-    ask_words(5, [0; 3], [pile, &[], &[], &[]], out)
+    ask_words(5, [0; 4], [pile, &[], &[], &[]], out)
 }
 
 pub fn open(pile: &[u8], head: &mut [u16; 7]) -> Answer {
-    ask_words(4, [0; 3], [pile, &[], &[], &[]], head)
+    ask_words(4, [0; 4], [pile, &[], &[], &[]], head)
 }
 
 /// Both are lent to be written, so they go as one, the list in front, where its numbers lie even.
 pub fn salvage(pile: &mut [u8], list: &mut [u16]) -> Answer {
     let mut lent = bytes(list);
     lent.extend_from_slice(pile);
-    let said = ask(10, [list.len(), 0, 0], [&[], &[], &[], &[]], &mut lent);
+    let said = ask(10, [list.len(), 0, 0, 0], [&[], &[], &[], &[]], &mut lent);
     for (number, pair) in list.iter_mut().zip(lent.chunks_exact(2)) {
         *number = u16::from_le_bytes([pair[0], pair[1]]);
     }
@@ -103,23 +103,23 @@ pub fn salvage(pile: &mut [u8], list: &mut [u16]) -> Answer {
     said
 }
 
-pub fn add(one: &[u8], two: &[u8], number: usize, out: &mut [u8]) -> Answer {
-    ask(11, [number, 0, 0], [one, two, &[], &[]], out)
+pub fn add(one: &[u8], two: &[u8], number: usize, year: usize, out: &mut [u8]) -> Answer {
+    ask(11, [number, year, 0, 0], [one, two, &[], &[]], out)
 }
 
 pub fn pack(key: &[u8], words: &mut [u16; 10]) -> Answer {
-    ask_words(6, [0; 3], [key, &[], &[], &[]], words)
+    ask_words(6, [0; 4], [key, &[], &[], &[]], words)
 }
 
 pub fn unpack(words: &[u16], out: &mut [u8]) -> Answer {
-    ask(7, [0; 3], [&bytes(words), &[], &[], &[]], out)
+    ask(7, [0; 4], [&bytes(words), &[], &[], &[]], out)
 }
 
 pub fn deal_key(d: &Deal, key: &[u8], holder: usize, out: &mut [u8]) -> Answer {
     let lists = [&d.required, &d.forbidden, &d.random].map(|words| bytes(words));
-    ask(8, [d.people, d.number, holder], [&lists[0], &lists[1], key, &lists[2]], out)
+    ask(8, [d.people, d.number, d.year, holder], [&lists[0], &lists[1], key, &lists[2]], out)
 }
 
 pub fn join_key(pile: &[u8], out: &mut [u8]) -> Answer {
-    ask(9, [0; 3], [pile, &[], &[], &[]], out)
+    ask(9, [0; 4], [pile, &[], &[], &[]], out)
 }

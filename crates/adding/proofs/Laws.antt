@@ -9,7 +9,7 @@ use Rattle.answer.specs.Outcome.{done}
 use Rattle.answer.specs.Lent.{noRoom}
 use Rattle.answer.proofs.CheckLaws.{passed-append}
 use Rattle.answer.proofs.WhichLaws.{only-one, first-found}
-use Rattle.block.specs.Deals.{badNumber}
+use Rattle.block.specs.Deals.{badNumber, badYear}
 use Rattle.adding.specs.Sum.{differ, unlikeAt, sumOf}
 use Rattle.adding.specs.Adding.{oneLines, unlike, repeated, addLines, adding}
 use Rattle.adding.specs.Laws as law
@@ -29,10 +29,10 @@ pub add-groups : law.AddGroups
 add-groups one two three left right new room e f g h = sum.sum-grouped (addable one two left room 1 e .0) (addable two three right room 1 g .0) new
 
 pub unlike-places : law.UnlikePlaces
-unfolding adding addLines unlikeAt some badNumber noRoom
+unfolding adding addLines unlikeAt some badNumber badYear noRoom
 unlike-places one two new room a b e =
     let r =
-    only-one 24 (oneLines one 1 ++ oneLines two 2) (unlike one two) (badNumber new ∷ repeated one two new ∷ noRoom 512 1 room ∷ []) 1 a b e refl refl in
+    only-one 24 (oneLines one 1 ++ oneLines two 2) (unlike one two) (badNumber (new .number) ∷ badYear (new .year) ∷ repeated one two new ∷ noRoom 512 1 room ∷ []) 1 a b e refl refl in
     let p = passed-append (oneLines one 1) (r .0) in
     (lines-true one 1 (p .0) .1, lines-true two 2 (p .1) .1, first-found (differ one two) 3 8 (r .1 .given) (r .1 .a-is), sym (r .1 .b-is))
 

@@ -23,6 +23,7 @@ use Rattle.block.proofs.LayoutLaws.{values-count}
 use Rattle.block.proofs.RangeLaws.{true-ranges}
 use Rattle.block.proofs.BodyLaws.{builds, length-block}
 use Rattle.block.proofs.Laws.{opens-written, written-words}
+use Rattle.adding.specs.declared.Pair.{Pair}
 use Rattle.adding.specs.Sum.{labelUnder, sumOf}
 use Rattle.adding.specs.Adding.{adding, sumInto}
 use Rattle.adding.specs.Laws.{Addable}
@@ -45,7 +46,7 @@ front-values one two w e f old made h =
     ∙ sym (added-run (λ i. wordAt one (7 + i)) (λ i. wordAt two (7 + i)) 1 w)
     ∙ ap₂ (λ (m n : ℕ). added (run (λ i. wordAt one (7 + i)) 1 m) (run (λ i. wordAt two (7 + i)) 1 n)) e f
 
-module _ {one two : List ℕ} {new room : ℕ} (y : Addable one two new room) where
+module _ {one two : List ℕ} {new : Pair} {room : ℕ} (y : Addable one two new room) where
   -- they have as many values
   pub widths : widthOf one ≡ widthOf two
   widths = y .alike 6 (omega arith) (omega arith)
@@ -70,6 +71,7 @@ module _ {one two : List ℕ} {new room : ℕ} (y : Addable one two new room) wh
         piece = r .piece;
       })
       (y .number-in .1)
+      (y .year-in)
       (λ i. omega (arith, added-below (valuesOf one) (valuesOf two) .each i))
       (sym (added-length (valuesOf one) (valuesOf two) (omega (arith, values-count one, values-count two, widths)) ∙ values-count one))
 
@@ -92,8 +94,8 @@ module _ {one two : List ℕ} {new room : ℕ} (y : Addable one two new room) wh
   -- a label of these fields and a list of these values are those of the sum
   pub label-from : {people pieces width holder piece : ℕ} → people ≡ wordAt one 4 → pieces ≡ wordAt one 5 → width ≡ wordAt one 6
       → holder ≡ wordAt one 3 → piece ≡ wordAt one 7
-      → _≡_ {A = Label} (record { deal = record { number = new; people = people; pieces = pieces; width = width }; holder = holder; piece = piece }) label
-  label-from e f g h k = λ t. record { deal = record { number = new; people = e t; pieces = f t; width = g t }; holder = h t; piece = k t }
+      → _≡_ {A = Label} (record { deal = record { number = new .number; people = people; pieces = pieces; width = width; year = new .year }; holder = holder; piece = piece }) label
+  label-from e f g h k = λ t. record { deal = record { number = new .number; people = e t; pieces = f t; width = g t; year = new .year }; holder = h t; piece = k t }
 
   module _ {l : Label} {vs : List ℕ} (e : l ≡ label) (f : vs ≡ values) where
     pub built : Buildable l vs
@@ -113,6 +115,7 @@ module _ {one two : List ℕ} {new room : ℕ} (y : Addable one two new room) wh
         true-two = y .true-one;
         alike = λ i l h. sym (y .alike i l h);
         number-in = y .number-in;
+        year-in = y .year-in;
         unlike-one = y .unlike-two;
         unlike-two = y .unlike-one;
         fits = y .fits;
@@ -122,10 +125,11 @@ module _ {one two : List ℕ} {new room : ℕ} (y : Addable one two new room) wh
   same-label = λ t.
       record {
         deal = record {
-          number = new;
+          number = new .number;
           people = sym (y .alike 4 (omega arith) (omega arith)) t;
           pieces = sym (y .alike 5 (omega arith) (omega arith)) t;
           width = sym (y .alike 6 (omega arith) (omega arith)) t;
+          year = new .year;
         };
         holder = sym (y .alike 3 (omega arith) (omega arith)) t;
         piece = sym (y .alike 7 (omega arith) (omega arith)) t;
@@ -136,8 +140,8 @@ module _ {one two : List ℕ} {new room : ℕ} (y : Addable one two new room) wh
   sum-exchanged = ap₂ blockBytes same-label (added-exchanged (valuesOf two) (valuesOf one))
 
 -- ---- grouped: the first two, or the last two, added first
-pub sum-grouped : {one two three : List ℕ} {left right room : ℕ} → Addable one two left room → Addable two three right room
-    → (new : ℕ) → sumOf (sumOf one two left) three new ≡ sumOf one (sumOf two three right) new
+pub sum-grouped : {one two three : List ℕ} {left right : Pair} {room : ℕ} → Addable one two left room → Addable two three right room
+    → (new : Pair) → sumOf (sumOf one two left) three new ≡ sumOf one (sumOf two three right) new
 unfolding sumOf
 sum-grouped {one} {two} {three} {left} {right} y z new =
     ap₂ (λ (l : Label) (vs : List ℕ). blockBytes (labelUnder new l) (added vs (valuesOf three))) (sum-label y) (sum-values y)
@@ -145,7 +149,7 @@ sum-grouped {one} {two} {three} {left} {right} y z new =
     (added-grouped (valuesOf one) (valuesOf two) (valuesOf three) ∙ ap (added (valuesOf one)) (sym (sum-values z)))
 
 -- ---- what is left of the output
-module _ (one two : List ℕ) (new : ℕ) (out : List ℕ) where
+module _ (one two : List ℕ) (new : Pair) (out : List ℕ) where
   pub sum-left : (n : ℕ) → adding one two new (length out) ≡ done n → sumInto one two new out ≡ over (sumOf one two new) out
   unfolding sumInto
   sum-left n e = result-writes (adding one two new (length out)) n (sumOf one two new) out e

@@ -1,4 +1,4 @@
-// Adding two blocks into one under a new deal number (SCOPE 4.1): the values one by one mod p, the words 3 to 7 as both have them. Adding the
+// Adding two blocks into one under a new deal number and year (SCOPE 4.1): the values one by one mod p, the words 3 to 7 as both have them. Adding the
 // cards of a deal of zeros to those of another deal renews them.
 use answer::Answer;
 use answer::Kind;
@@ -12,11 +12,17 @@ ghost use Rattle.answer.specs.Outcome.{outcome, done};
 ghost use Rattle.answer.specs.Checks.{firstFail};
 ghost use Rattle.field.specs.Added.{added};
 ghost use Rattle.block.specs.Layout.{valuesOf, widthOf};
-ghost use Rattle.block.specs.Deals.{badNumber};
+ghost use Rattle.block.specs.Deals.{badNumber, badYear};
 ghost use Rattle.block.specs.Open.{TrueBlock};
 ghost use Rattle.adding.specs.Sum.{unlikeAt, sumOf};
-ghost use Rattle.adding.specs.Adding.{oneLines, unlike, repeated, adding, sumInto};
+ghost use Rattle.adding.specs.Adding.{oneLines, unlike, samePair, repeated, adding, sumInto};
 ghost use Rattle.adding.specs.Laws.{Addable};
+
+// A deal number and a year, as they are lent.
+pub struct Pair {
+    pub number: usize,
+    pub year: usize,
+}
 
 // 13, 15, 16 and 17 of block a of the two.
 fn check_one(b: &[u8], a: usize) -> Answer
@@ -43,35 +49,51 @@ fn first_unlike(one: &[u8], two: &[u8]) -> usize
     0
 }
 
-// 24 and 8 of two blocks and a new number.
-fn check_both(one: &[u8], two: &[u8], number: usize) -> Answer
+// Number and year are those of block b.
+fn same_pair(new: Pair, b: &[u8]) -> bool
+    requires { ⌜ length (now b) ≡ 512 ⌝ }
+    ensures { λ r. ⌜ r ≡ samePair new (now (b .entry)) ⌝ }
+{
+    if new.number == block::word(b, 2) as usize {
+        new.year == block::word(b, 24) as usize
+    } else {
+        false
+    }
+}
+
+// 24, 8, 25 and 8 of two blocks and a new number and year.
+fn check_both(one: &[u8], two: &[u8], new: Pair) -> Answer
     requires { ⌜ (length (now one) ≡ 512) × (length (now two) ≡ 512) ⌝ }
     ensures { λ r.
-        let lines = unlike (now (one .entry)) (now (two .entry)) ∷ badNumber number ∷ repeated (now (one .entry)) (now (two .entry)) number ∷ [] in
-        ⌜ outcome r ≡ firstFail lines (done 0) ⌝ }
+        let both = unlike (now (one .entry)) (now (two .entry)) in
+        let again = repeated (now (one .entry)) (now (two .entry)) new in
+        ⌜ outcome r ≡ firstFail (both ∷ badNumber (new .number) ∷ badYear (new .year) ∷ again ∷ []) (done 0) ⌝ }
 {
     let other = first_unlike(one, two);
     if other != 0 {
         return answer::refuse(Kind::Unlike, other, 0);
     }
-    if number == 0 {
+    if new.number == 0 {
         return answer::refuse(Kind::Deal, 0, 0);
     }
-    if 32748 < number {
+    if 32748 < new.number {
         return answer::refuse(Kind::Deal, 0, 0);
     }
-    if number == block::word(one, 2) as usize {
+    if 32748 < new.year {
+        return answer::refuse(Kind::Year, 0, 0);
+    }
+    if same_pair(new, one) {
         return answer::refuse(Kind::Deal, 0, 0);
     }
-    if number == block::word(two, 2) as usize {
+    if same_pair(new, two) {
         return answer::refuse(Kind::Deal, 0, 0);
     }
     Answer::Done(0)
 }
 
 // The answer of adding two blocks into an output of so many bytes: all checks in their order, else 1.
-fn check_add(one: &[u8], two: &[u8], number: usize, room: usize) -> Answer
-    ensures { λ r. ⌜ outcome r ≡ adding (now (one .entry)) (now (two .entry)) number room ⌝ }
+fn check_add(one: &[u8], two: &[u8], new: Pair, room: usize) -> Answer
+    ensures { λ r. ⌜ outcome r ≡ adding (now (one .entry)) (now (two .entry)) new room ⌝ }
 {
     if let Answer::Refused(r) = check_one(one, 1) {
         return Answer::Refused(r);
@@ -79,7 +101,7 @@ fn check_add(one: &[u8], two: &[u8], number: usize, room: usize) -> Answer
     if let Answer::Refused(r) = check_one(two, 2) {
         return Answer::Refused(r);
     }
-    if let Answer::Refused(r) = check_both(one, two, number) {
+    if let Answer::Refused(r) = check_both(one, two, new) {
         return Answer::Refused(r);
     }
     if room < 512 {
@@ -104,9 +126,9 @@ fn added_values(one: &[u8], two: &[u8], w: usize) -> [u16; 16]
 }
 
 // Writes the sum over the front of the output.
-fn write_sum(one: &[u8], two: &[u8], number: usize, out: &mut [u8])
-    requires { ⌜ Addable (now one) (now two) number (length (now out)) ⌝ }
-    ensures { λ _. ⌜ now (out .exit) ≡ over (sumOf (now (one .entry)) (now (two .entry)) number) (now (out .entry)) ⌝ }
+fn write_sum(one: &[u8], two: &[u8], new: Pair, out: &mut [u8])
+    requires { ⌜ Addable (now one) (now two) new (length (now out)) ⌝ }
+    ensures { λ _. ⌜ now (out .exit) ≡ over (sumOf (now (one .entry)) (now (two .entry)) new) (now (out .entry)) ⌝ }
 {
     let people = block::word(one, 4);
     let pieces = block::word(one, 5);
@@ -116,10 +138,11 @@ fn write_sum(one: &[u8], two: &[u8], number: usize, out: &mut [u8])
     let w = width as usize;
     let made = added_values(one, two, w);
     let deal = DealWords {
-        number: number as u16,
+        number: new.number as u16,
         people: people,
         pieces: pieces,
         width: width,
+        year: new.year as u16,
     };
     let label = Label {
         deal: deal,
@@ -130,13 +153,13 @@ fn write_sum(one: &[u8], two: &[u8], number: usize, out: &mut [u8])
 }
 
 // Adds two blocks: the sum over the front of the output, and 1, a number of blocks; or a refusal, which changes nothing.
-pub fn add(one: &[u8], two: &[u8], number: usize, out: &mut [u8]) -> Answer
-    ensures says { λ r. ⌜ outcome r ≡ adding (now (one .entry)) (now (two .entry)) number (length (now (out .entry))) ⌝ }
-    ensures leaves { λ r. ⌜ now (out .exit) ≡ sumInto (now (one .entry)) (now (two .entry)) number (now (out .entry)) ⌝ }
+pub fn add(one: &[u8], two: &[u8], new: Pair, out: &mut [u8]) -> Answer
+    ensures says { λ r. ⌜ outcome r ≡ adding (now (one .entry)) (now (two .entry)) new (length (now (out .entry))) ⌝ }
+    ensures leaves { λ r. ⌜ now (out .exit) ≡ sumInto (now (one .entry)) (now (two .entry)) new (now (out .entry)) ⌝ }
 {
-    match check_add(one, two, number, out.len()) {
+    match check_add(one, two, new, out.len()) {
         Answer::Done(_) => {
-            write_sum(one, two, number, out);
+            write_sum(one, two, new, out);
             Answer::Done(1)
         }
         Answer::Refused(r) => Answer::Refused(r),

@@ -6,7 +6,7 @@ use Prim.Native.Nat.{ℕ}
 use lib.ListN.{getD}
 use Rattle.answer.specs.declared.Kind.{Kind}
 use Rattle.answer.specs.declared.Kind.the-variants.{People, LongList, Stranger, Nobody, Open, Clash, Wide, Deal, Holder, Secret, Random}
-use Rattle.answer.specs.declared.Kind.the-variants.{Room, Torn, Long, Unread, Check, Header, Mixed, Conflict, Short, Text, Lone, NotKey, Unlike}
+use Rattle.answer.specs.declared.Kind.the-variants.{Room, Torn, Long, Unread, Check, Header, Mixed, Conflict, Short, Text, Lone, NotKey, Unlike, Year}
 use Rattle.answer.specs.declared.Refusal.{Refusal}
 use Rattle.answer.specs.declared.Answer.{Answer}
 use Rattle.answer.specs.declared.Answer.the-variants.{Done, Refused}
@@ -16,9 +16,9 @@ use Rattle.answer.specs.Outcome.{number, outcome}
 kindOf : ℕ → Kind
 kindOf n =
     getD
-    (Unlike ∷ People ∷ LongList ∷ Stranger ∷ Nobody ∷ Open ∷ Clash ∷ Wide ∷ Deal ∷ Holder ∷ Secret ∷ Random
-    ∷ Room ∷ Torn ∷ Long ∷ Unread ∷ Check ∷ Header ∷ Mixed ∷ Conflict ∷ Short ∷ Text ∷ Lone ∷ NotKey ∷ [])
-    n Unlike
+    (Year ∷ People ∷ LongList ∷ Stranger ∷ Nobody ∷ Open ∷ Clash ∷ Wide ∷ Deal ∷ Holder ∷ Secret ∷ Random
+    ∷ Room ∷ Torn ∷ Long ∷ Unread ∷ Check ∷ Header ∷ Mixed ∷ Conflict ∷ Short ∷ Text ∷ Lone ∷ NotKey ∷ Unlike ∷ [])
+    n Year
 
 kind-back : (k : Kind) → kindOf (number k) ≡ k
 unfolding kindOf
@@ -46,6 +46,7 @@ kind-back Text = refl
 kind-back Lone = refl
 kind-back NotKey = refl
 kind-back Unlike = refl
+kind-back Year = refl
 
 pub number-one : (j k : Kind) → number j ≡ number k → j ≡ k
 number-one j k e = sym (kind-back j) ∙ ap kindOf e ∙ kind-back k

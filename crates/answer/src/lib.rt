@@ -29,6 +29,7 @@ pub enum Kind {
     Lone,
     NotKey,
     Unlike,
+    Year,
 }
 
 // A refusal: its kind and its two places, each 0 where SCOPE 6.2 names none.
@@ -73,6 +74,7 @@ pub fn number_of(k: Kind) -> usize
         Kind::Lone => 22,
         Kind::NotKey => 23,
         Kind::Unlike => 24,
+        Kind::Year => 25,
     }
 }
 

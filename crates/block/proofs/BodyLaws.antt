@@ -5,6 +5,7 @@ use mathlib.Core.Logic.{_≢_}
 use lib.Arith.{lt-of-le-ne}
 use mathlib.Core.List.{List, [], _∷_}
 use Prim.Native.Nat.{ℕ, zero, suc, _+_, _-_, _*_, _≤_}
+use native.Mathlib.Decide.{ℕ-discrete}
 use native.Mathlib.Omega.{arith}
 use lib.ListN.{length, getD, length-append}
 use Rattle.lists.proofs.RunLaws.{run-length, run-at}
@@ -43,7 +44,15 @@ module _ (l : Label) (vs : List ℕ) where
       ∙ ap₂ _+_ (length-bytes (body l vs) ∙ ap (λ (n : ℕ). 2 * n) length-body) (length-bytes (checkOf b ∷ []))
 
 -- ---- a label in its ranges and values of at most 32748 can be written
-module _ (l : Label) (vs : List ℕ) (y : Ranges l) (number : l .deal .number ≤ 32748) (values : (i : ℕ) → getD vs i 0 ≤ 32748) where
+module _ (l : Label) (vs : List ℕ) (y : Ranges l) (number : l .deal .number ≤ 32748) (year : l .deal .year ≤ 32748) (values : (i : ℕ) → getD vs i 0 ≤ 32748) where
+  past-small : (i : ℕ) → 8 ≤ i → heldAt l vs i ≤ 32748
+  unfolding heldAt
+  past-small i u = far (ℕ-discrete i 24)
+    where
+      far : Dec (i ≡ 24) → heldAt l vs i ≤ 32748
+      far (yes e) = rw e year
+      far (no n) = rw (held-rest l vs i u n) (values (i - 8))
+
   held-small : (i : ℕ) → 1 ≤ i → heldAt l vs i ≤ 32748
   unfolding heldAt
   held-small zero u = absurd (omega arith)
@@ -54,8 +63,7 @@ module _ (l : Label) (vs : List ℕ) (y : Ranges l) (number : l .deal .number �
   held-small (suc (suc (suc (suc (suc zero))))) u = omega (arith, y .pieces .1)
   held-small (suc (suc (suc (suc (suc (suc zero)))))) u = omega (arith, y .width .1)
   held-small (suc (suc (suc (suc (suc (suc (suc zero))))))) u = omega (arith, y .piece .1, y .pieces .1)
-  held-small (suc (suc (suc (suc (suc (suc (suc (suc i)))))))) u =
-      rw (held-rest l vs (suc (suc (suc (suc (suc (suc (suc (suc i)))))))) (omega arith)) (values (suc (suc (suc (suc (suc (suc (suc (suc i))))))) - 8))
+  held-small (suc (suc (suc (suc (suc (suc (suc (suc i)))))))) u = past-small (suc (suc (suc (suc (suc (suc (suc (suc i)))))))) (omega arith)
 
   pub builds : l .deal .width ≡ length vs → Buildable l vs
   builds e = record { ranged = of-ranges l y; counted = e; small = λ i from to. held-small i from }

@@ -10,12 +10,23 @@ use Rattle.block.specs.Deals.{sameDeal}
 pub deal-same : (x : DealWords) → sameDeal x x ≡ true
 unfolding sameDeal
 deal-same x =
-    rw (eq-eqb (x .number) (x .number) refl, eq-eqb (x .people) (x .people) refl, eq-eqb (x .pieces) (x .pieces) refl, eq-eqb (x .width) (x .width) refl)
+    rw (
+      eq-eqb (x .number) (x .number) refl,
+      eq-eqb (x .people) (x .people) refl,
+      eq-eqb (x .pieces) (x .pieces) refl,
+      eq-eqb (x .width) (x .width) refl,
+      eq-eqb (x .year) (x .year) refl,
+    )
 
 pub same-deal : (x y : DealWords) → sameDeal x y ≡ true → x ≡ y
 unfolding sameDeal
 same-deal x y e =
-    let d = both (eqb (x .number) (y .number) && eqb (x .people) (y .people) && eqb (x .pieces) (y .pieces)) (eqb (x .width) (y .width)) e in
+    let f =
+    both
+    (eqb (x .number) (y .number) && eqb (x .people) (y .people) && eqb (x .pieces) (y .pieces) && eqb (x .width) (y .width))
+    (eqb (x .year) (y .year))
+    e in
+    let d = both (eqb (x .number) (y .number) && eqb (x .people) (y .people) && eqb (x .pieces) (y .pieces)) (eqb (x .width) (y .width)) (f .0) in
     let c = both (eqb (x .number) (y .number) && eqb (x .people) (y .people)) (eqb (x .pieces) (y .pieces)) (d .0) in
     let b = both (eqb (x .number) (y .number)) (eqb (x .people) (y .people)) (c .0) in
     λ i.
@@ -24,6 +35,7 @@ same-deal x y e =
       people = eqb-true (x .people) (y .people) (b .1) i;
       pieces = eqb-true (x .pieces) (y .pieces) (c .1) i;
       width = eqb-true (x .width) (y .width) (d .1) i;
+      year = eqb-true (x .year) (y .year) (f .1) i;
     }
 
 pub other-deal : (x y : DealWords) → (x ≡ y → ⊥) → sameDeal x y ≡ false

@@ -11,6 +11,7 @@ use Rattle.block.proofs.BodyLaws as body
 use Rattle.block.proofs.WrittenLaws as written
 use Rattle.block.proofs.DamageLaws as damage
 use Rattle.block.proofs.FrontLaws as front
+use Rattle.block.proofs.EarlierLaws as earlier
 use Rattle.block.proofs.OneLaws as one
 
 pub ranges-mean : law.RangesMean
@@ -69,3 +70,12 @@ refused-empty = value.refused-empty
 
 pub same-deal-means : law.SameDealMeans
 same-deal-means x y = (deal.same-deal x y, λ e. ap (sameDeal x) (sym e) ∙ deal.deal-same x)
+
+pub earlier-block : law.EarlierBlock
+earlier-block = earlier.earlier-block
+
+pub earlier-layout : law.EarlierLayout
+earlier-layout = earlier.earlier-layout
+
+pub earlier-deals : law.EarlierDeals
+earlier-deals = earlier.earlier-deals

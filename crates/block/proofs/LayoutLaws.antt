@@ -2,26 +2,27 @@
 -- where the layout is kept. Assumes nothing.
 use mathlib.Core.Path.{_≡_, refl, sym, ap, ap₂, _∙_}
 use mathlib.Core.Bool.{Bool, true, false, not, _&&_}
+use mathlib.Core.Logic.{_≢_}
 use mathlib.Core.List.{List}
 use Prim.Native.Nat.{ℕ, zero, suc, _+_, _-_, _≤_}
 use native.Mathlib.Decide.{decLe}
 use native.Mathlib.Omega.{arith}
-use lib.Dec.{eqb}
+use lib.Dec.{eqb, leb}
 use lib.ListN.{getD, length, List·getD-eq-default}
-use borrow.Author.Tests.{eqb-true, eq-eqb, ne-eqb, not-false}
+use borrow.Author.Tests.{eqb-true, eq-eqb, ne-eqb, not-false, leb-true}
 use Rattle.lists.proofs.RunLaws.{run-length, run-at}
 use Rattle.lists.specs.Places.{firstIn}
 use Rattle.lists.proofs.Truth.{both, and-all}
-use Rattle.lists.proofs.FirstLaws.{first-none, first-all, none-in, skip, first-same}
+use Rattle.lists.proofs.FirstLaws.{first-miss, first-all, none-in, skip, first-part, first-past, first-same}
 use Rattle.block.specs.declared.Label.{Label}
 use Rattle.block.specs.Words.{wordAt}
 use Rattle.block.specs.Layout.{widthOf, heldAt, rangeAt, Ranged, labelOf, valuesOf, rightAt, firstWrong, Layout}
 use Rattle.block.specs.Inner.{filled}
 
--- ---- past word 7 the table has the values, and no range
-pub held-rest : (l : Label) (vs : List ℕ) (i : ℕ) → 8 ≤ i → heldAt l vs i ≡ getD vs (i - 8) 0
+-- ---- past word 7 the table has the values, but for the year, and no range
+pub held-rest : (l : Label) (vs : List ℕ) (i : ℕ) → 8 ≤ i → i ≢ 24 → heldAt l vs i ≡ getD vs (i - 8) 0
 unfolding heldAt
-held-rest l vs i h =
+held-rest l vs i h n =
     simp (
       ne-eqb i 1 (λ e. omega arith),
       ne-eqb i 2 (λ e. omega arith),
@@ -30,6 +31,7 @@ held-rest l vs i h =
       ne-eqb i 5 (λ e. omega arith),
       ne-eqb i 6 (λ e. omega arith),
       ne-eqb i 7 (λ e. omega arith),
+      ne-eqb i 24 n,
     )
 
 range-rest : (l : Label) (i : ℕ) → 8 ≤ i → rangeAt l i ≡ true
@@ -68,7 +70,7 @@ unfolding valuesOf
 values-count b = run-length (λ j. wordAt b (7 + j)) 1 (widthOf b)
 
 -- ---- a block's words against the table
--- words 2 to 7 are what the table has there, whatever they are: their range alone counts
+-- words 2 to 7, and 24, are what the table has there, whatever they are: their range alone counts
 own-word : (b vs : List ℕ) (i : ℕ) → 2 ≤ i → i ≤ 7 → heldAt (labelOf b) vs i ≡ wordAt b i
 unfolding heldAt
 own-word b vs zero l h = absurd (omega arith)
@@ -89,36 +91,67 @@ pub right-mark : (b : List ℕ) → rightAt b 1 ≡ eqb (wordAt b 1) 1987
 unfolding rightAt heldAt rangeAt
 right-mark b = and-all (eqb (wordAt b 1) 1987)
 
-right-rest : (b : List ℕ) (i : ℕ) → 8 ≤ i → rightAt b i ≡ eqb (wordAt b i) (getD (valuesOf b) (i - 8) 0)
+-- the year is right, whatever it is
+pub right-year : (b : List ℕ) → not (rightAt b 24) ≡ false
+unfolding rightAt heldAt rangeAt
+right-year b = rw (eq-eqb (wordAt b 24) (wordAt b 24) refl)
+
+right-rest : (b : List ℕ) (i : ℕ) → 8 ≤ i → i ≢ 24 → rightAt b i ≡ eqb (wordAt b i) (getD (valuesOf b) (i - 8) 0)
 unfolding rightAt
-right-rest b i l =
-    ap₂ (λ (x : ℕ) (y : Bool). eqb (wordAt b i) x && y) (held-rest (labelOf b) (valuesOf b) i l) (range-rest (labelOf b) i l)
+right-rest b i l n =
+    ap₂ (λ (x : ℕ) (y : Bool). eqb (wordAt b i) x && y) (held-rest (labelOf b) (valuesOf b) i l n) (range-rest (labelOf b) i l)
     ∙ and-all (eqb (wordAt b i) (getD (valuesOf b) (i - 8) 0))
 
--- the words of the values are right, and those past them where they are 0
-right-value : (b : List ℕ) (i : ℕ) → 8 ≤ i → i ≤ 7 + widthOf b → not (rightAt b i) ≡ false
-right-value b i l h =
-    let e : i - 7 - 1 ≡ i - 8 = omega arith in
-    let f : 7 + (i - 7) ≡ i = omega arith in
-    let v : getD (valuesOf b) (i - 8) 0 ≡ wordAt b i = rw (e, f) at (values-at b (i - 7) (omega arith) (omega arith)) in
-    ap not (right-rest b i l ∙ eq-eqb (wordAt b i) (getD (valuesOf b) (i - 8) 0) (sym v))
+-- the words of the values are right, and those past them, but for the year, where they are 0
+module _ (b : List ℕ) (few : widthOf b ≤ 16) where
+  right-value : (i : ℕ) → 8 ≤ i → i ≤ 7 + widthOf b → not (rightAt b i) ≡ false
+  right-value i l h =
+      let e : i - 7 - 1 ≡ i - 8 = omega arith in
+      let f : 7 + (i - 7) ≡ i = omega arith in
+      let v : getD (valuesOf b) (i - 8) 0 ≡ wordAt b i = rw (e, f) at (values-at b (i - 7) (omega arith) (omega arith)) in
+      ap not (right-rest b i l (λ n. omega arith) ∙ eq-eqb (wordAt b i) (getD (valuesOf b) (i - 8) 0) (sym v))
 
-right-zero : (b : List ℕ) (i : ℕ) → 8 + widthOf b ≤ i → not (rightAt b i) ≡ filled b i
-right-zero b i h =
-    let z : getD (valuesOf b) (i - 8) 0 ≡ 0 = List·getD-eq-default (valuesOf b) 0 (omega (arith, values-count b)) in
-    ap not (right-rest b i (omega arith) ∙ ap (eqb (wordAt b i)) z)
+  right-zero : (i : ℕ) → 8 + widthOf b ≤ i → i ≢ 24 → not (rightAt b i) ≡ filled b i
+  right-zero i h n =
+      let z : getD (valuesOf b) (i - 8) 0 ≡ 0 = List·getD-eq-default (valuesOf b) 0 (omega (arith, values-count b)) in
+      ap not (right-rest b i (omega arith) n ∙ ap (eqb (wordAt b i)) z)
 
--- so past word 7 the first wrong word is the first past the values that is not 0
-pub wrong-rest : (b : List ℕ) → firstIn (λ k. not (rightAt b k)) 8 256 ≡ firstIn (filled b) (8 + widthOf b) 256
-wrong-rest b = go (decLe (8 + widthOf b) 256)
+  -- so past word 7 the first wrong word is the first past the values that is not 0, before the year,
+  values-right : firstIn (λ k. not (rightAt b k)) 8 256 ≡ firstIn (λ k. not (rightAt b k)) (8 + widthOf b) 256
+  values-right = skip (λ k. not (rightAt b k)) (widthOf b) 8 256 (omega arith) (λ k l m. right-value k l (omega arith))
+
+  before-year : firstIn (λ k. not (rightAt b k)) (8 + widthOf b) 24 ≡ firstIn (filled b) (8 + widthOf b) 24
+  before-year = first-same (λ k. not (rightAt b k)) (filled b) (8 + widthOf b) 24 (λ k l m. right-zero k l (λ e. omega arith))
+
+  behind-year : firstIn (λ k. not (rightAt b k)) 24 256 ≡ firstIn (filled b) 25 256
+  behind-year =
+      first-miss (λ k. not (rightAt b k)) 24 256 (omega arith) (right-year b)
+      ∙ first-same (λ k. not (rightAt b k)) (filled b) 25 256 (λ k l m. right-zero k (omega arith) (λ e. omega arith))
+
+  pub wrong-before : firstIn (filled b) (8 + widthOf b) 24 ≢ 0 → firstIn (λ k. not (rightAt b k)) 8 256 ≡ firstIn (filled b) (8 + widthOf b) 24
+  wrong-before h =
+      values-right
+      ∙ first-part (λ k. not (rightAt b k)) (8 + widthOf b) 24 256 (omega arith) (λ z. h (sym before-year ∙ z))
+      ∙ before-year
+
+  -- or, where none is there, behind it
+  pub wrong-behind : firstIn (filled b) (8 + widthOf b) 24 ≡ 0 → firstIn (λ k. not (rightAt b k)) 8 256 ≡ firstIn (filled b) 25 256
+  wrong-behind z =
+      values-right
+      ∙ first-past (λ k. not (rightAt b k)) (8 + widthOf b) 24 256 (omega arith) (omega arith) (omega arith) (before-year ∙ z)
+      ∙ behind-year
+
+-- once word 6 was found right, w is at most 16
+pub width-few : (b : List ℕ) (i : ℕ) → (7 ≤ i → widthOf b ≤ 16) → rightAt b i ≡ true → 7 ≤ i + 1 → widthOf b ≤ 16
+unfolding rangeAt
+width-few b i past right l = go (decLe 7 i)
   where
-    go : Dec (8 + widthOf b ≤ 256) → firstIn (λ k. not (rightAt b k)) 8 256 ≡ firstIn (filled b) (8 + widthOf b) 256
-    go (yes h) =
-        skip (λ k. not (rightAt b k)) (widthOf b) 8 256 h (λ k l m. right-value b k l (omega arith))
-        ∙ first-same (λ k. not (rightAt b k)) (filled b) (8 + widthOf b) 256 (λ k l m. right-zero b k l)
-    go (no f) =
-        first-all (λ k. not (rightAt b k)) 8 256 (λ k l m. right-value b k l (omega arith))
-        ∙ sym (first-none (filled b) (8 + widthOf b) 256 (omega arith))
+    six : rightAt b 6 ≡ true → widthOf b ≤ 16
+    six e = leb-true (widthOf b) 16 (both (leb 1 (widthOf b)) (leb (widthOf b) 16) (sym (right-own b 6 (omega arith) (omega arith)) ∙ e) .1)
+
+    go : Dec (7 ≤ i) → widthOf b ≤ 16
+    go (yes h) = past h
+    go (no h) = let e : i ≡ 6 = omega arith in six (rw e at right)
 
 -- ---- no word is wrong exactly where the layout is kept
 pub layout-of : (b : List ℕ) → firstWrong b ≡ 0 → Layout b

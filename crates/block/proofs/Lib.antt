@@ -14,6 +14,7 @@ pub mod BodyLaws
 pub mod WritingLaws
 pub mod WrittenLaws
 pub mod DamageLaws
+pub mod EarlierLaws
 pub mod OneLaws
 pub mod Cases
 pub mod Laws

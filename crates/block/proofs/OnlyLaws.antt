@@ -35,6 +35,7 @@ module _ (b c : List ℕ) (same : (i : ℕ) → 1 ≤ i → i ≤ 256 → wordAt
           people = same 4 (omega arith) (omega arith) t;
           pieces = same 5 (omega arith) (omega arith) t;
           width = same 6 (omega arith) (omega arith) t;
+          year = same 24 (omega arith) (omega arith) t;
         };
         holder = same 3 (omega arith) (omega arith) t;
         piece = same 7 (omega arith) (omega arith) t;

@@ -101,6 +101,7 @@ module _ (l : Label) (vs rest : List ℕ) where
           people = word-is 4 (omega arith) (omega arith) t;
           pieces = word-is 5 (omega arith) (omega arith) t;
           width = word-is 6 (omega arith) (omega arith) t;
+          year = word-is 24 (omega arith) (omega arith) t;
         };
         holder = word-is 3 (omega arith) (omega arith) t;
         piece = word-is 7 (omega arith) (omega arith) t;
@@ -131,7 +132,7 @@ module _ (l : Label) (vs rest : List ℕ) where
         sym (run-is (λ i. wordAt pile (7 + i)) (widthOf pile) vs (sym width-is)
         (λ i from to.
         let e : 7 + i - 8 ≡ i - 1 = omega arith in
-        sym (word-is (7 + i) (omega arith) (omega (arith, few, width-is)) ∙ held-rest l vs (7 + i) (omega arith) ∙ ap (λ (k : ℕ). getD vs k 0) e)))
+        sym (word-is (7 + i) (omega arith) (omega (arith, few, width-is)) ∙ held-rest l vs (7 + i) (omega arith) (λ n. omega (arith, few, width-is)) ∙ ap (λ (k : ℕ). getD vs k 0) e)))
 
     true-is : TrueBlock pile
     unfolding pile check

@@ -1,11 +1,12 @@
--- A deal's number, and which deal a block is of: the words that all blocks of one deal share. Nothing else tells one deal from another.
+-- A deal's number and year, and which deal a block is of: the words that all blocks of one deal share. Nothing else tells one deal from another.
 -- Assumes nothing.
 use mathlib.Core.Bool.{Bool, _&&_}
 use mathlib.Core.List.{List}
 use Prim.Native.Nat.{ℕ}
 use lib.Dec.{eqb}
 use Rattle.lists.specs.Places.{outside}
-use Rattle.answer.specs.declared.Kind.the-variants.{Deal as DealKind}
+use Rattle.prime.specs.Prime.{tooLarge}
+use Rattle.answer.specs.declared.Kind.the-variants.{Deal as DealKind, Year}
 use Rattle.answer.specs.Checks.{Line, line}
 use Rattle.block.specs.declared.deal.DealWords.{DealWords}
 use Rattle.block.specs.Words.{wordAt}
@@ -14,10 +15,19 @@ use Rattle.block.specs.Words.{wordAt}
 unfoldable pub badNumber : ℕ → Line
 badNumber number = line DealKind (outside 32748 number) 0 0
 
--- deal number, n, k and w, as the block b has them
+-- 25 YEAR: the year exceeds 32748; 0 is a year
+unfoldable pub badYear : ℕ → Line
+badYear year = line Year (tooLarge year) 0 0
+
+-- deal number, n, k, w and the year, as the block b has them
 abbrev pub dealWords : List ℕ → DealWords
-dealWords b = record { number = wordAt b 2; people = wordAt b 4; pieces = wordAt b 5; width = wordAt b 6 }
+dealWords b = record { number = wordAt b 2; people = wordAt b 4; pieces = wordAt b 5; width = wordAt b 6; year = wordAt b 24 }
 
 -- they agree in every one of them
 unfoldable pub sameDeal : DealWords → DealWords → Bool
-sameDeal x y = eqb (x .number) (y .number) && eqb (x .people) (y .people) && eqb (x .pieces) (y .pieces) && eqb (x .width) (y .width)
+sameDeal x y =
+    eqb (x .number) (y .number)
+    && eqb (x .people) (y .people)
+    && eqb (x .pieces) (y .pieces)
+    && eqb (x .width) (y .width)
+    && eqb (x .year) (y .year)

@@ -16,9 +16,10 @@ use Rattle.block.specs.declared.Label.{Label}
 use Rattle.block.specs.declared.Opened.{Opened}
 use Rattle.block.specs.Words.{wordAt, putAt, bytesOf}
 use Rattle.block.specs.Deals.{sameDeal}
-use Rattle.block.specs.Layout.{frontWords, widthOf, heldAt, Ranged, labelOf, valuesOf}
+use Rattle.block.specs.Layout.{frontWords, widthOf, heldAt, Ranged, labelOf, valuesOf, firstWrong}
 use Rattle.block.specs.Open.{above, blockLines, opening, valueBytes, valueStart, opened, TrueBlock}
 use Rattle.block.specs.Written.{blockBytes, Buildable}
+use Rattle.block.specs.Earlier.{formerWrong, formerBytes, formerSame}
 
 -- The ranges of a label, as inequalities.
 pub record Ranges (l : Label) : Type 0 where
@@ -124,3 +125,16 @@ RefusedEmpty = (pile : List ℕ) (m a b : ℕ) → opening pile ≡ refused m a 
 -- The test for one deal holds exactly where all the words that tell deals apart are the same.
 abbrev pub SameDealMeans : Type 0
 SameDealMeans = (x y : DealWords) → (sameDeal x y ≡ true) ↔ (x ≡ y)
+
+-- ---- cards made before there was a year, which carry 0 in word 24
+-- Under year 0 a block is written byte for byte as it was.
+abbrev pub EarlierBlock : Type 0
+EarlierBlock = (l : Label) (vs : List ℕ) → l .deal .year ≡ 0 → length vs ≤ 16 → blockBytes l vs ≡ formerBytes l vs
+
+-- Of a block whose word 24 is 0 the first wrong word is what it was.
+abbrev pub EarlierLayout : Type 0
+EarlierLayout = (b : List ℕ) → wordAt b 24 ≡ 0 → firstWrong b ≡ formerWrong b
+
+-- And two deals of one year are told apart by what told them apart.
+abbrev pub EarlierDeals : Type 0
+EarlierDeals = (x y : DealWords) → x .year ≡ y .year → sameDeal x y ≡ formerSame x y

@@ -25,7 +25,8 @@ abbrev pub widthOf : List ℕ → ℕ
 widthOf b = wordAt b 6
 
 -- ---- the table
--- what word i holds, 1 to 255, in the block with this label and these values: from word 8 on the values, and past them 0
+-- what word i holds, 1 to 255, in the block with this label and these values: word 24 the year, from word 8 on the values, which end before
+-- it, and past them 0
 unfoldable pub heldAt : Label → List ℕ → ℕ → ℕ
 heldAt l vs i =
     cond (eqb i 1) 1987
@@ -35,14 +36,15 @@ heldAt l vs i =
     (cond (eqb i 5) (l .deal .pieces)
     (cond (eqb i 6) (l .deal .width)
     (cond (eqb i 7) (l .piece)
-    (getD vs (i - 8) 0)))))))
+    (cond (eqb i 24) (l .deal .year)
+    (getD vs (i - 8) 0))))))))
 
 -- v is low to high
 abbrev pub within : ℕ → ℕ → ℕ → Bool
 within low v high = leb low v && leb v high
 
 -- what word i holds is in its range: a deal number that is not 0, a holder of 1 to 8, at most 8 people with the holder among them, k of
--- 1 to 70, w of 1 to 16, a piece of 1 to k
+-- 1 to 70, w of 1 to 16, a piece of 1 to k; any year
 unfoldable pub rangeAt : Label → ℕ → Bool
 rangeAt l i =
     cond (eqb i 2) (not (eqb (l .deal .number) 0))

@@ -125,7 +125,8 @@ fn first_filled(b: &[u8], start: usize, end: usize) -> usize
     search_filled(b, start, end)
 }
 
-// The first of words 1 to 255 that is not as SCOPE 4 has it, or 0: words 1 to 7, then the words past the values, which are 0.
+// The first of words 1 to 255 that is not as SCOPE 4 has it, or 0: words 1 to 7, then the words past the values, which are 0 on both sides of
+// the year.
 pub fn first_wrong(b: &[u8]) -> usize
     requires { ⌜ 510 ≤ length (now b) ⌝ }
     ensures { λ r. ⌜ r ≡ firstWrong (now (b .entry)) ⌝ }
@@ -140,7 +141,11 @@ pub fn first_wrong(b: &[u8]) -> usize
         }
     }
     let width = word(b, 6);
-    first_filled(b, 8 + width as usize, 256)
+    let filled = first_filled(b, 8 + width as usize, 24);
+    if filled != 0 {
+        return filled;
+    }
+    first_filled(b, 25, 256)
 }
 
 // The first block of the rest of a pile, which is block a, for UNREAD and CHECK.

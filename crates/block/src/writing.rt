@@ -34,6 +34,7 @@ fn body_word(i: usize, l: Label, values: &[u16]) -> u16
         5 => deal.pieces,
         6 => deal.width,
         7 => l.piece,
+        24 => deal.year,
         _ => {
             let at = i - 8;
             if at < values.len() { values[at] } else { 0 }

@@ -26,13 +26,13 @@ use Rattle.lists.specs.Flat.{flat}
 use Rattle.dealing.specs.Dealt.{badHolder, badWidth, badSecret, badCount, badRandom, inputLines, blockCount, dealLines, dealing, Made}
 use Rattle.dealing.proofs.Laws as law
 use Rattle.pile.specs.Blocks.{blocks, restFrom}
-use Rattle.block.specs.Deals.{badNumber, sameDeal}
+use Rattle.block.specs.Deals.{badNumber, badYear, sameDeal}
 use Rattle.joining.specs.Pile.{heapOf, inLargest, ownBlock, placeOf, differIn, present}
 use Rattle.pile.specs.Lines.{linesFrom, everyBlock}
 use Rattle.joining.specs.Checks.{mixedAt, contradicts, contradictedBy, conflictAt, pileLines}
 use Rattle.joining.specs.Joined.{joinLines, joining}
 use Rattle.cases.specs.Plain.{set}
-use Rattle.cases.specs.Table.{deal11, words11, pile12}
+use Rattle.cases.specs.Table.{dealIn, deal11, words11, words2026, pile12}
 
 -- holder 4 has one block
 one-block : blockCount deal11 4 ≡ 1
@@ -41,13 +41,18 @@ one-block = refl
 
 -- the deal can be made
 pub made : Made deal11
-unfolding dealing dealLines firstFail planLines listLines people long strangers nobody opens lone clash clashPlace wide stranger memberCount oneMember inputLines badNumber badHolder badWidth badSecret badCount badRandom noRoom blockCount heldBy dealPieces firstPlace firstFrom planning.held holds groupsBy those maximalBy tight authorised some each inside member set
+unfolding dealing dealLines firstFail planLines listLines people long strangers nobody opens lone clash clashPlace wide stranger memberCount oneMember inputLines badNumber badYear badHolder badWidth badSecret badCount badRandom noRoom blockCount heldBy dealPieces firstPlace firstFrom planning.held holds groupsBy those maximalBy tight authorised some each inside member set
 made = record { holder = 4; room = 512; blocks = 1; answer = refl }
 
 -- every byte of that block
 pub the-block : card deal11 4 ≡ bytesOf words11
 unfolding card flat blockFor heldBy dealPieces valuesIn value planning.held holds groupsBy those maximalBy tight authorised some each inside member set blockBytes body run heldAt bytesOf checkOf weighted wordAt
 the-block = refl
+
+-- and of that of the year 2026
+pub the-year : card (dealIn 2026) 4 ≡ bytesOf words2026
+unfolding card flat blockFor heldBy dealPieces valuesIn value planning.held holds groupsBy those maximalBy tight authorised some each inside member set blockBytes body run heldAt bytesOf checkOf weighted wordAt
+the-year = refl
 
 -- it is dealt into every output that has room for it
 pub dealt : (out : List ℕ) → 512 ≤ length out → dealing deal11 4 (length out) ≡ done 1

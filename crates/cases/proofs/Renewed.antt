@@ -20,32 +20,32 @@ use Rattle.planning.specs.Sets.{inside, member}
 use Rattle.planning.specs.Groups as planning
 use Rattle.planning.specs.Groups.{authorised, tight, maximalBy, groupsBy, holds}
 use Rattle.block.specs.Words.{wordAt, bytesOf, weighted, checkOf}
-use Rattle.block.specs.Deals.{badNumber}
+use Rattle.block.specs.Deals.{badNumber, badYear}
 use Rattle.block.specs.Layout.{heldAt, rangeAt, valuesOf, rightAt, firstWrong}
 use Rattle.block.specs.Open.{firstAbove}
 use Rattle.block.specs.Written.{body, blockBytes}
 use Rattle.dealing.specs.Deal.{blockFor, dealPieces, heldBy, card}
-use Rattle.adding.specs.Sum.{unlikeAt, sumOf}
-use Rattle.adding.specs.Adding.{addLines, adding}
+use Rattle.adding.specs.Sum.{pairOf, unlikeAt, sumOf}
+use Rattle.adding.specs.Adding.{samePair, addLines, adding}
 use Rattle.adding.proofs.Laws.{add-exactly, result-writes}
 use Rattle.cases.specs.Plain.{set}
 use Rattle.cases.specs.Table.{deal11}
 use Rattle.cases.specs.Renewed.{zeros11, renewed11, Renewed}
 
 -- every byte of the sum
-the-sum : sumOf (card deal11 4) (card zeros11 4) 9 ≡ bytesOf renewed11
+the-sum : sumOf (card deal11 4) (card zeros11 4) (pairOf 9 0) ≡ bytesOf renewed11
 unfolding sumOf added valuesOf card flat blockFor heldBy dealPieces valuesIn value planning.held holds groupsBy those maximalBy tight authorised some each inside member set blockBytes body run heldAt bytesOf checkOf weighted wordAt
 the-sum = refl
 
 -- the two blocks add up into 512 bytes
-adds-in-512 : adding (card deal11 4) (card zeros11 4) 9 512 ≡ done 1
-unfolding adding addLines unlikeAt firstFail firstFrom firstAbove rangeAt rightAt firstWrong badNumber noRoom valuesOf card flat blockFor heldBy dealPieces valuesIn value planning.held holds groupsBy those maximalBy tight authorised some each inside member set blockBytes body run heldAt bytesOf checkOf weighted wordAt
+adds-in-512 : adding (card deal11 4) (card zeros11 4) (pairOf 9 0) 512 ≡ done 1
+unfolding adding addLines unlikeAt firstFail firstFrom firstAbove rangeAt rightAt firstWrong badNumber badYear samePair noRoom valuesOf card flat blockFor heldBy dealPieces valuesIn value planning.held holds groupsBy those maximalBy tight authorised some each inside member set blockBytes body run heldAt bytesOf checkOf weighted wordAt
 adds-in-512 = refl
 
-adds : (room : ℕ) → 512 ≤ room → adding (card deal11 4) (card zeros11 4) 9 room ≡ done 1
+adds : (room : ℕ) → 512 ≤ room → adding (card deal11 4) (card zeros11 4) (pairOf 9 0) room ≡ done 1
 adds room h =
-    let y = add-exactly (card deal11 4) (card zeros11 4) 9 512 1 .0 adds-in-512 .0 in
-    add-exactly (card deal11 4) (card zeros11 4) 9 room 1 .1 (
+    let y = add-exactly (card deal11 4) (card zeros11 4) (pairOf 9 0) 512 1 .0 adds-in-512 .0 in
+    add-exactly (card deal11 4) (card zeros11 4) (pairOf 9 0) room 1 .1 (
       record {
         whole-one = y .whole-one;
         whole-two = y .whole-two;
@@ -53,6 +53,7 @@ adds room h =
         true-two = y .true-two;
         alike = y .alike;
         number-in = y .number-in;
+        year-in = y .year-in;
         unlike-one = y .unlike-one;
         unlike-two = y .unlike-two;
         fits = h;
@@ -69,5 +70,5 @@ renewed =
       joins = refl;
       block = λ out h.
           let e = adds (length out) h in
-          (e, result-writes (card deal11 4) (card zeros11 4) 9 out e ∙ ap (λ (b : List ℕ). b ++ drop 512 out) the-sum);
+          (e, result-writes (card deal11 4) (card zeros11 4) (pairOf 9 0) out e ∙ ap (λ (b : List ℕ). b ++ drop 512 out) the-sum);
     }

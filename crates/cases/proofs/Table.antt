@@ -19,7 +19,7 @@ use Rattle.joining.proofs.Laws as joining
 use Rattle.cases.specs.Plain.{set}
 use Rattle.cases.specs.Table.{deal11, pile12, Table}
 use Rattle.cases.proofs.Listing.{prints}
-use Rattle.cases.proofs.Bytes.{the-block, dealt, short-two}
+use Rattle.cases.proofs.Bytes.{the-block, the-year, dealt, short-two}
 
 pub table : Table
 unfolding planned plannedRows rowsOf marks planLines listLines people long strangers nobody opens lone clashPlace clash wide firstFail firstFrom firstPlace those member each inside stranger memberCount oneMember some authorised tight maximalBy groupsBy holds held set run value joined joinedIn diffs rowsIn rows firsts withPlus withMinus alternating byDifferences minus
@@ -37,5 +37,6 @@ table =
       p9 = refl;
       p10 = (refl, refl);
       p11 = (the-block, λ out room. (dealt out room, dealing.result-writes deal11 4 out 1 (dealt out room) .3 ∙ ap (λ b. b ++ drop 512 out) the-block));
+      p11-year = the-year;
       p12 = λ out. (short-two (length out), joining.refusal-keeps pile12 out 20 2 3 (short-two (length out)));
     }

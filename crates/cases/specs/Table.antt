@@ -46,13 +46,21 @@ printed1 =
 abbrev pub pairs : List ℕ
 pairs = set (1 ∷ 2 ∷ []) ∷ set (1 ∷ 3 ∷ []) ∷ set (2 ∷ 3 ∷ []) ∷ []
 
--- the deal of P11: the policy of P1, deal 7, word and coefficients of P7
+-- the deal of P11, of a year: the policy of P1, deal 7, word and coefficients of P7
+abbrev pub dealIn : ℕ → Deal
+dealIn year = dealFrom policy1 7 year (1234 ∷ []) (5 ∷ 7 ∷ [])
+
+-- that of the year 0, which P11 and P12 are
 abbrev pub deal11 : Deal
-deal11 = dealFrom policy1 7 (1234 ∷ []) (5 ∷ 7 ∷ [])
+deal11 = dealIn 0
 
 -- the block of P11, all its 256 words
 abbrev pub words11 : List ℕ
 words11 = 1987 ∷ 7 ∷ 4 ∷ 4 ∷ 3 ∷ 1 ∷ 1 ∷ 1246 ∷ replicate 247 0 ++ 12025 ∷ []
+
+-- the same block of the deal of the year 2026
+abbrev pub words2026 : List ℕ
+words2026 = 1987 ∷ 7 ∷ 4 ∷ 4 ∷ 3 ∷ 1 ∷ 1 ∷ 1246 ∷ replicate 15 0 ++ 2026 ∷ replicate 231 0 ++ 27900 ∷ []
 
 -- the pile of P12: the cards of holders 1 and 4 of that deal, one after the other
 abbrev pub pile12 : List ℕ
@@ -94,6 +102,8 @@ pub record Table : Type 0 where
   pub p11 : (card deal11 4 ≡ bytesOf words11)
       × ((out : List ℕ) → 512 ≤ length out
       → (dealing deal11 4 (length out) ≡ done 1) × (dealtInto deal11 4 out ≡ bytesOf words11 ++ drop 512 out))
+  -- under the year 2026 it is that card with 2026 in word 24, and the check that goes with it
+  pub p11-year : card (dealIn 2026) 4 ≡ bytesOf words2026
   -- the cards of holders 1 and 4 in that deal: SHORT with a = 2, b = 3; whatever output is lent stays as it was
   pub p12 : (out : List ℕ)
       → (joining pile12 (length out) ≡ refused (number Short) 2 3)

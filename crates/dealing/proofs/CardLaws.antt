@@ -73,6 +73,7 @@ ready-builds {asked} {k} {secret} {random} r j vs l u e =
       piece = (l, u);
     })
     (r .number-in .1)
+    (r .year-in)
     (λ i. rw e (omega (arith, values-below (k - 1) secret random j .each i)))
     (sym (ap length e ∙ values-length (k - 1) secret random j))
 

@@ -1,9 +1,10 @@
--- The pieces that a person holds, their values, and what a card depends on.
+-- The pieces that a person holds, their values, what a card depends on, and what it was before the year.
 -- Assumes nothing.
 use Prim.Native.Nat.{ℕ, _-_, _≤_}
 use mathlib.Core.Path.{_≡_, refl, sym, ap, ap₂, _∙_}
 use mathlib.Core.Bool.{true}
 use mathlib.Core.List.{List, [], _∷_, map, List·Memᴰ·head, List·Memᴰ·tail}
+use native.Mathlib.Omega.{arith}
 use lib.ListN.{length}
 use Rattle.field.proofs.ValuesLaws as field
 use Rattle.planning.specs.Groups as planning
@@ -11,8 +12,11 @@ use Rattle.lists.specs.Some.{_∈_}
 use Rattle.planning.specs.Groups.{holds}
 use Rattle.planning.proofs.Laws.{held-are}
 use Rattle.block.specs.Written.{blockBytes}
+use Rattle.block.specs.Earlier.{formerBytes}
+use Rattle.block.proofs.Laws.{earlier-block}
 use Rattle.dealing.specs.declared.Asked.{Asked}
-use Rattle.dealing.specs.Deal.{Deal, labelFor, blockFor, askedOf, dealPieces, heldBy, pieceValues, blockOf, card}
+use Rattle.dealing.specs.Deal.{Deal, labelFor, blockFor, askedOf, dealPieces, heldBy, pieceValues, label, blockOf, card}
+use Rattle.dealing.specs.Laws.{EarlierCards}
 use Rattle.lists.specs.Flat.{flat}
 
 -- ---- which pieces a person holds
@@ -61,3 +65,11 @@ module _ (d d′ : Deal) (holder : ℕ) (asked : askedOf d holder ≡ askedOf d�
       ap flat
       (map-same (blockOf d holder) (blockOf d′ holder) (heldBy d holder) (λ j m. block-same j (e j m))
       ∙ ap (map (blockOf d′ holder)) held-same)
+
+-- ---- cards made earlier: under year 0 each block is the former one
+pub earlier-cards : EarlierCards
+unfolding card blockFor label pieceValues
+earlier-cards d holder year few =
+    ap flat
+    (map-same (blockFor (askedOf d holder) (dealPieces d) (d .secret) (d .random)) (λ j. formerBytes (label d holder j) (pieceValues d j)) (heldBy d holder)
+    (λ j m. earlier-block (label d holder j) (pieceValues d j) year (omega (arith, values-length d j))))

@@ -15,7 +15,7 @@ use Rattle.prime.specs.Prime.{Below, tooLarge}
 use Rattle.field.proofs.Sums.{below-within}
 use Rattle.lists.proofs.RangeLaws.{in-range, range-in}
 use Rattle.dealing.specs.declared.Asked.{Asked}
-use Rattle.block.specs.Deals.{badNumber}
+use Rattle.block.specs.Deals.{badNumber, badYear}
 use Rattle.dealing.specs.Dealt.{badHolder, badWidth, badSecret, badCount, badRandom, inputLines}
 use Rattle.dealing.specs.Inner.{Ready}
 
@@ -30,10 +30,10 @@ unfolding firstPlace
 words-small l b =
     found-none (first-all (λ i. tooLarge (at l i)) 1 (length l + 1) (λ i low high. le-ltb 32748 (at l i) (omega (arith, b .each (i - 1)))))
 
--- ---- 8 to 11
+-- ---- 8, 25, 9 to 11
 module _ {asked : Asked} {k : ℕ} {secret random : List ℕ} where
   pub lines-ready : asked .people ≤ 8 → 1 ≤ k → k ≤ 70 → Passed (inputLines asked (k - 1) secret random) → Ready asked k secret random
-  unfolding inputLines badNumber badHolder badWidth badSecret badCount badRandom
+  unfolding inputLines badNumber badYear badHolder badWidth badSecret badCount badRandom
   lines-ready few least most p =
       let p1 = passed p in
       let p2 = passed (p1 .1) in
@@ -41,24 +41,27 @@ module _ {asked : Asked} {k : ℕ} {secret random : List ℕ} where
       let p4 = passed (p3 .1) in
       let p5 = passed (p4 .1) in
       let p6 = passed (p5 .1) in
+      let p7 = passed (p6 .1) in
       record {
         few = few;
         least = least;
         most = most;
         number-in = in-range 32748 (asked .number) (p1 .0);
-        holder-in = in-range (asked .people) (asked .holder) (p2 .0);
-        width-in = in-range 16 (length secret) (p3 .0);
-        secret-in = small-words secret (p4 .0);
-        random-in = record { count = eqb-true _ _ (not-false _ (p5 .0)); below = small-words random (p6 .0) };
+        year-in = ltb-false 32748 (asked .year) (p2 .0);
+        holder-in = in-range (asked .people) (asked .holder) (p3 .0);
+        width-in = in-range 16 (length secret) (p4 .0);
+        secret-in = small-words secret (p5 .0);
+        random-in = record { count = eqb-true _ _ (not-false _ (p6 .0)); below = small-words random (p7 .0) };
       }
 
   pub ready-lines : Ready asked k secret random → Passed (inputLines asked (k - 1) secret random)
-  unfolding inputLines badNumber badHolder badWidth badSecret badCount badRandom
+  unfolding inputLines badNumber badYear badHolder badWidth badSecret badCount badRandom
   ready-lines r =
       passed-one (range-in 32748 (asked .number) (r .number-in .0) (r .number-in .1))
+      (passed-one (le-ltb 32748 (asked .year) (r .year-in))
       (passed-one (range-in (asked .people) (asked .holder) (r .holder-in .0) (r .holder-in .1))
       (passed-one (range-in 16 (length secret) (r .width-in .0) (r .width-in .1))
       (passed-one (words-small secret (r .secret-in))
       (passed-one (rw (eq-eqb _ _ (r .random-in .count)))
       (passed-one (words-small random (r .random-in .below))
-      passed-none)))))
+      passed-none))))))

@@ -11,6 +11,9 @@ use Rattle.dealing.proofs.PlaceLaws as place
 pub card-depends : law.CardDepends
 card-depends = held.card-depends
 
+pub earlier-cards : law.EarlierCards
+earlier-cards = held.earlier-cards
+
 pub blocks-open : law.BlocksOpen
 blocks-open d m holder j l u h = made.blocks-open d (made.made-in-range d m) holder l u j h
 

@@ -48,6 +48,7 @@ ready-with d f holder h secret random e b r =
       least = f .ready .least;
       most = f .ready .most;
       number-in = f .ready .number-in;
+      year-in = f .ready .year-in;
       holder-in = h;
       width-in = rw e (f .ready .width-in);
       secret-in = b;

@@ -11,27 +11,28 @@ use Rattle.block.specs.declared.Label.{Label}
 use Rattle.block.specs.Written.{blockBytes}
 use Rattle.dealing.specs.declared.Asked.{Asked}
 
--- SCOPE 3: one deal, the four that all its cards are made from
+-- SCOPE 3: one deal, the five that all its cards are made from
 pub record Deal : Type 0 where
   pub policy : Policy
   pub number : ℕ
+  pub year : ℕ
   pub secret : List ℕ
   pub random : List ℕ
 
 -- the deal of these
-abbrev pub dealFrom : Policy → ℕ → List ℕ → List ℕ → Deal
-dealFrom policy number secret random = record { policy = policy; number = number; secret = secret; random = random }
+abbrev pub dealFrom : Policy → ℕ → ℕ → List ℕ → List ℕ → Deal
+dealFrom policy number year secret random = record { policy = policy; number = number; year = year; secret = secret; random = random }
 
--- the same policy and deal number with another secret and other randomness
+-- the same policy, deal number and year with another secret and other randomness
 abbrev pub again : Deal → List ℕ → List ℕ → Deal
-again d secret random = dealFrom (d .policy) (d .number) secret random
+again d secret random = dealFrom (d .policy) (d .number) (d .year) secret random
 
 -- ---- a card of k pieces: from what is asked, k, the secret and the randomness
 -- the label of the block of piece j, where the secret has so many words
 abbrev pub labelFor : Asked → ℕ → ℕ → ℕ → Label
 labelFor asked k width j =
     record {
-      deal = record { number = asked .number; people = asked .people; pieces = k; width = width };
+      deal = record { number = asked .number; people = asked .people; pieces = k; width = width; year = asked .year };
       holder = asked .holder;
       piece = j;
     }
@@ -47,7 +48,7 @@ cardOver asked k secret random pieces = flat (map (blockFor asked k secret rando
 -- ---- the cards of a deal
 -- what is asked where it is the card of this holder
 abbrev pub askedOf : Deal → ℕ → Asked
-askedOf d holder = record { people = d .policy .people; number = d .number; holder = holder }
+askedOf d holder = record { people = d .policy .people; number = d .number; year = d .year; holder = holder }
 
 -- k, the pieces of the deal
 unfoldable pub dealPieces : Deal → ℕ

@@ -1,4 +1,4 @@
--- What dealing answers and writes: SCOPE 6, refusals 1 to 12 and 22, and the card over the front of the lent output.
+-- What dealing answers and writes: SCOPE 6, refusals 1 to 12, 22 and 25, and the card over the front of the lent output.
 -- Assumes nothing.
 use Prim.Native.Nat.{ℕ, _-_, _*_}
 use mathlib.Core.Path.{_≡_}
@@ -13,7 +13,7 @@ use Rattle.answer.specs.Checks.{Line, line, firstFail}
 use Rattle.lists.specs.Places.{firstPlace, found, outside}
 use Rattle.answer.specs.Lent.{noRoom, left}
 use Rattle.planning.specs.Planned.{planLines}
-use Rattle.block.specs.Deals.{badNumber}
+use Rattle.block.specs.Deals.{badNumber, badYear}
 use Rattle.dealing.specs.declared.Asked.{Asked}
 use Rattle.dealing.specs.Deal.{Deal, askedOf, dealPieces, heldBy, card}
 
@@ -37,10 +37,11 @@ badCount each secret random = line Random (not (eqb (length random) (length secr
 unfoldable pub badRandom : List ℕ → Line
 badRandom random = line Random (found (firstPlace tooLarge random)) (firstPlace tooLarge random) 0
 
--- 8 to 11, in their order
+-- 8, 25, 9 to 11, in their order
 unfoldable pub inputLines : Asked → ℕ → List ℕ → List ℕ → List Line
 inputLines asked each secret random =
     badNumber (asked .number)
+    ∷ badYear (asked .year)
     ∷ badHolder (asked .people) (asked .holder)
     ∷ badWidth secret
     ∷ badSecret secret
@@ -48,7 +49,7 @@ inputLines asked each secret random =
     ∷ badRandom random
     ∷ []
 
--- 8 to 12: for a card of so many blocks into a lent output of so many bytes
+-- those and 12: for a card of so many blocks into a lent output of so many bytes
 abbrev pub cardLines : Asked → ℕ → List ℕ → List ℕ → ℕ → ℕ → List Line
 cardLines asked each secret random blocks room = inputLines asked each secret random ++ noRoom (512 * blocks) blocks room ∷ []
 
@@ -56,7 +57,7 @@ cardLines asked each secret random blocks room = inputLines asked each secret ra
 unfoldable pub blockCount : Deal → ℕ → ℕ
 blockCount d holder = length (heldBy d holder)
 
--- planning's, then 8 to 12, in their order: for one holder's card into a lent output of so many bytes
+-- planning's, then 8, 25 and 9 to 12, in their order: for one holder's card into a lent output of so many bytes
 unfoldable pub dealLines : Deal → ℕ → ℕ → List Line
 dealLines d holder room =
     planLines (d .policy) ++ cardLines (askedOf d holder) (dealPieces d - 1) (d .secret) (d .random) (blockCount d holder) room

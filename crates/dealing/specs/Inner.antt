@@ -13,12 +13,13 @@ use Rattle.field.specs.Pieces.{Random}
 use Rattle.planning.specs.Groups.{marked}
 use Rattle.dealing.specs.declared.Asked.{Asked}
 
--- what refusals 1 to 11, none of them given, have made sure of
+-- what the refusals before 12, none of them given, have made sure of
 pub record Ready (asked : Asked) (k : ℕ) (secret random : List ℕ) : Type 0 where
   pub few : asked .people ≤ 8
   pub least : 1 ≤ k
   pub most : k ≤ 70
   pub number-in : (1 ≤ asked .number) × (asked .number ≤ 32748)
+  pub year-in : asked .year ≤ 32748
   pub holder-in : (1 ≤ asked .holder) × (asked .holder ≤ asked .people)
   pub width-in : (1 ≤ length secret) × (length secret ≤ 16)
   pub secret-in : Below secret

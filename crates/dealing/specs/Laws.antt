@@ -2,10 +2,11 @@
 -- Assumes nothing.
 use Prim.Native.Nat.{ℕ, _+_, _-_, _*_, _≤_, _<_}
 use mathlib.Core.Path.{_≡_}
-use mathlib.Core.List.{List, _++_}
+use mathlib.Core.List.{List, _++_, map}
 use mathlib.Core.Logic.{_≢_, _⊎_}
 use lib.ListN.{length, drop}
 use Rattle.lists.specs.Run.{run}
+use Rattle.lists.specs.Flat.{flat}
 use Rattle.answer.specs.declared.Kind.the-variants.{Secret, Random, Room}
 use Rattle.answer.specs.Outcome.{done, refused, number}
 use Rattle.lists.specs.Places.{at}
@@ -14,11 +15,12 @@ use Rattle.prime.specs.Prime.{tooLarge}
 use Rattle.lists.specs.Some.{_∈_}
 use Rattle.block.specs.Words.{bytesOf}
 use Rattle.block.specs.Layout.{heldAt}
+use Rattle.block.specs.Earlier.{formerBytes}
 use Rattle.block.specs.Open.{opening, valueBytes, TrueBlock}
 use Rattle.dealing.specs.Deal.{Deal, askedOf, dealPieces, heldBy, pieceValues, label, blockOf, card}
 use Rattle.dealing.specs.Dealt.{Made, blockCount, dealing, dealtInto}
 
--- SCOPE 4: deals that agree in policy, deal number, holder, and in the pieces that this holder has, agree in this card. (Of the policy,
+-- SCOPE 4: deals that agree in policy, deal number, year, holder, and in the pieces that this holder has, agree in this card. (Of the policy,
 -- only n and the required list count.)
 abbrev pub CardDepends : Type 0
 CardDepends = (d d′ : Deal) (holder : ℕ)
@@ -26,6 +28,11 @@ CardDepends = (d d′ : Deal) (holder : ℕ)
     → d .policy .required ≡ d′ .policy .required
     → ((j : ℕ) → j ∈ heldBy d holder → pieceValues d j ≡ pieceValues d′ j)
     → card d holder ≡ card d′ holder
+
+-- Under year 0 a card is byte for byte the card of the former layout.
+abbrev pub EarlierCards : Type 0
+EarlierCards = (d : Deal) (holder : ℕ) → d .year ≡ 0 → length (d .secret) ≤ 16
+    → card d holder ≡ flat (map (λ j. formerBytes (label d holder j) (pieceValues d j)) (heldBy d holder))
 
 -- Every block of a card is true, and opens to its words and values.
 abbrev pub BlocksOpen : Type 0

@@ -55,6 +55,7 @@ fn write_piece(
         people: asked.people as u16,
         pieces: k as u16,
         width: width as u16,
+        year: asked.year as u16,
     };
     let label = Label {
         deal: deal,

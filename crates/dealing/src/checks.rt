@@ -1,4 +1,4 @@
-// Refusals 8 to 11: the deal number, the holder, the secret and the randomness, in this order.
+// Refusals 8, 25 and 9 to 11: the deal number, the year, the holder, the secret and the randomness, in this order.
 use crate::Asked;
 use answer::Answer;
 use answer::Kind;
@@ -31,13 +31,16 @@ fn outside(high: usize, v: usize) -> bool
     if v == 0 { true } else { high < v }
 }
 
-// Refusals 8 to 11, where each word of the secret wants so many coefficients.
+// These refusals, where each word of the secret wants so many coefficients.
 pub fn check_inputs(asked: Asked, each: usize, secret: &[u16], random: &[u16]) -> Answer
     requires { ⌜ each ≤ 4096 ⌝ }
     ensures { λ r. ⌜ outcome r ≡ firstFail (inputLines asked each (now (secret .entry)) (now (random .entry))) (done 0) ⌝ }
 {
     if outside(32748, asked.number) {
         return answer::refuse(Kind::Deal, 0, 0);
+    }
+    if 32748 < asked.year {
+        return answer::refuse(Kind::Year, 0, 0);
     }
     if outside(asked.people, asked.holder) {
         return answer::refuse(Kind::Holder, 0, 0);

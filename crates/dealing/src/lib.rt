@@ -1,4 +1,4 @@
-// Dealing: one holder's card (SCOPE 3 and 4; refusals 1 to 12 and 22).
+// Dealing: one holder's card (SCOPE 3 and 4; refusals 1 to 12, 22 and 25).
 // The definitions that the contracts cite are in specs/, in SCOPE's terms and order.
 mod card;
 mod checks;
@@ -19,10 +19,11 @@ ghost use Rattle.dealing.specs.Inner.{heldIn};
 pub struct Asked {
     pub people: usize,
     pub number: usize,
+    pub year: usize,
     pub holder: usize,
 }
 
-// Refusals 8 to 12, or the holder's card, by the rows of the k pieces that were planned.
+// Refusals 8, 25 and 9 to 12, or the holder's card, by the rows of the k pieces that were planned.
 fn deal_planned(
     rows: &[[bool; 8]; 70],
     asked: Asked,
@@ -46,12 +47,13 @@ fn deal_planned(
     }
 }
 
-// One holder's card: a refusal, 1 to 12 or 22, or how many blocks it has, written over the front of what is lent.
+// One holder's card: a refusal, 1 to 12, 22 or 25, or how many blocks it has, written over the front of what is lent.
 pub fn deal(
     people: usize,
     required: &[u16],
     forbidden: &[u16],
     deal_number: usize,
+    year: usize,
     holder: usize,
     secret: &[u16],
     random: &[u16],
@@ -59,11 +61,11 @@ pub fn deal(
 ) -> Answer
     ensures says { λ r.
         let policy = policyOf people (now (required .entry)) (now (forbidden .entry)) in
-        let d = dealFrom policy «deal_number» (now (secret .entry)) (now (random .entry)) in
+        let d = dealFrom policy «deal_number» year (now (secret .entry)) (now (random .entry)) in
         ⌜ outcome r ≡ dealing d holder (length (now (out .entry))) ⌝ }
     ensures leaves { λ r.
         let policy = policyOf people (now (required .entry)) (now (forbidden .entry)) in
-        let d = dealFrom policy «deal_number» (now (secret .entry)) (now (random .entry)) in
+        let d = dealFrom policy «deal_number» year (now (secret .entry)) (now (random .entry)) in
         ⌜ now (out .exit) ≡ dealtInto d holder (now (out .entry)) ⌝ }
 {
     let mut rows = [[false; 8]; 70];
@@ -73,6 +75,7 @@ pub fn deal(
             let asked = Asked {
                 people: people,
                 number: deal_number,
+                year: year,
                 holder: holder,
             };
             deal_planned(&rows, asked, k, secret, random, out)

@@ -33,7 +33,7 @@ module _ (d : Deal) (f : InRange d) (i j : ℕ) (least : 1 ≤ i) (most : i ≤ 
         words = word;
         value = λ v low high.
             word (7 + v) (omega arith) (omega (arith, f .ready .width-in .1))
-            ∙ held-rest l vs (7 + v) (omega arith)
+            ∙ held-rest l vs (7 + v) (omega arith) (λ n. omega (arith, f .ready .width-in .1))
             ∙ ap (λ (x : ℕ). getD vs x 0) (back v)
             ∙ values-at (dealPieces d - 1) (d .secret) (d .random) j v low high;
         check = sym (block-true .sum);
@@ -49,6 +49,7 @@ module _ {d : Deal} {holder j : ℕ} {b : List ℕ} (c : CardBlock d holder j b)
           people = c .words 4 (omega arith) (omega arith) t;
           pieces = c .words 5 (omega arith) (omega arith) t;
           width = c .words 6 (omega arith) (omega arith) t;
+          year = c .words 24 (omega arith) (omega arith) t;
         };
         holder = c .words 3 (omega arith) (omega arith) t;
         piece = c .words 7 (omega arith) (omega arith) t;

@@ -5,20 +5,21 @@ use Rattle.answer.proofs.WhichLaws.{refused-number}
 use Rattle.planning.specs.Groups.{pieceCount}
 use Rattle.planning.specs.Planned.{planLines, planned, listLines}
 use Rattle.block.specs.Layout.{frontWords}
-use Rattle.block.specs.Open.{opening}
+use Rattle.block.specs.Open.{blockLines, opening}
 use Rattle.block.proofs.Laws.{which-refusals}
 use Rattle.dealing.specs.Dealt.{inputLines, blockCount, dealLines, dealing}
 use Rattle.dealing.proofs.DealLaws.{refused-deal}
 use Rattle.dealing.proofs.MadeLaws.{made-in-range}
 use Rattle.dealing.proofs.Laws as dealt
-use Rattle.pile.specs.Blocks.{blocks}
+use Rattle.pile.specs.Blocks.{blocks, restFrom}
 use Rattle.joining.specs.Pile.{ownWidth}
 use Rattle.pile.specs.Lines.{everyBlock}
+use Rattle.pile.proofs.LineLaws.{in-order}
 use Rattle.joining.specs.Joined.{joinLines, joining}
 use Rattle.joining.proofs.PlaceLaws.{join-lines}
 use Rattle.joining.proofs.Laws as joined
 use Rattle.demands.specs.Demand1 as demand
-use Rattle.demands.proofs.LineLaws.{ends, in-order}
+use Rattle.demands.proofs.LineLaws.{ends}
 use Rattle.demands.proofs.UnreadLaws.{unread}
 
 -- ---- a result or a refusal
@@ -55,7 +56,7 @@ join-order = join-lines
 
 pub block-order : demand.BlockOrder
 unfolding everyBlock
-block-order pile = in-order pile (blocks pile) 1
+block-order pile = in-order pile (λ a. blockLines (restFrom pile a) a) (blocks pile) 1 (λ a l m. refl)
 
 -- ---- the refusals of each call
 pub plan-refuses : demand.PlanRefuses

@@ -71,8 +71,8 @@ sixteen key false e h = absurd (omega arith)
 
 pub key-deal-made : demand.KeyDealMade
 unfolding keySecret
-key-deal-made policy number key random small made =
-    let some = made-in-range (keyDeal policy number key random) made .ready .width-in .0 in
+key-deal-made policy number year key random small made =
+    let some = made-in-range (keyDeal policy number year key random) made .ready .width-in .0 in
     let e = sixteen key (eqb (length key) 16) refl some in
     record {
       made = made;

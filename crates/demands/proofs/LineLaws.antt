@@ -1,19 +1,14 @@
--- Lines in order: every list of them ends with its result or with the first line that is given; and a pile's lines are its blocks', in order.
+-- Lines in order: every list of them ends with its result or with the first line that is given.
 -- Assumes nothing.
-use Prim.Native.Nat.{ℕ, zero, suc}
+use Prim.Native.Nat.{ℕ}
 use mathlib.Core.Path.{_≡_, refl, ap}
 use mathlib.Core.Bool.{Bool, true, false}
-use mathlib.Core.List.{List, [], _∷_, _++_, flatMap}
+use mathlib.Core.List.{List, [], _∷_}
 use mathlib.Core.Logic.{inl, inr, ⊎-elim}
-use native.Mathlib.Numerals.{add-one}
-use Rattle.lists.specs.Run.{run}
 use Rattle.answer.specs.Outcome.{Outcome, done, refused, number}
 use Rattle.answer.specs.Checks.{Line, pick, firstFail}
 use Rattle.answer.specs.Laws.{Passed}
 use Rattle.answer.proofs.CheckLaws.{passed-none, passed-one}
-use Rattle.block.specs.Open.{blockLines}
-use Rattle.pile.specs.Blocks.{restFrom}
-use Rattle.pile.specs.Lines.{linesFrom}
 use Rattle.demands.specs.Demand1.{Speaks, Ends}
 
 -- ---- with a line more in front
@@ -47,9 +42,3 @@ pub ends : {A : Type 0} (ls : List Line) (v : A) → Ends ls v (firstFail ls (do
 unfolding firstFail
 ends [] v = inl (passed-none, refl)
 ends (l ∷ ls) v = ends-pick l ls v (l .given) (firstFail ls (done v)) refl (ends ls v)
-
--- ---- blocks in pile order
-pub in-order : (pile : List ℕ) (n a : ℕ) → linesFrom pile a n ≡ flatMap (λ a. blockLines (restFrom pile a) a) (run (λ a. a) a n)
-unfolding linesFrom flatMap run
-in-order pile zero a = refl
-in-order pile (suc n) a = ap (λ (ls : List Line). blockLines (restFrom pile a) a ++ ls) (rw (add-one a) (in-order pile n (suc a)))

@@ -99,7 +99,9 @@ module _ {d : Deal} {g : ℕ} {pile : List ℕ} (r : Reads d g pile) where
       let q = held-in d (t .who) (t .which) (t .has) in
       (omega (arith, q .0, piece-is (t .says)), omega (arith, q .1, piece-is (t .says)))
 
-  deal-is : (a : ℕ) → In pile a → dealAt pile a ≡ record { number = d .number; people = d .policy .people; pieces = dealPieces d; width = length (d .secret) }
+  deal-is : (a : ℕ) → In pile a
+      → dealAt pile a
+      ≡ record { number = d .number; people = d .policy .people; pieces = dealPieces d; width = length (d .secret); year = d .year }
   unfolding label
   deal-is a h = ap (λ (l : Label). l .deal) (label-is (r .theirs a h .says))
 

@@ -4,10 +4,11 @@ use mathlib.Core.Logic.{⊎-elim}
 use Rattle.field.proofs.HidingLaws.{none-favoured}
 use Rattle.answer.proofs.WhichLaws.{refused-number}
 use Rattle.block.specs.declared.deal.DealWords.{DealWords}
+use Rattle.adding.specs.Sum.{pairOf, pairIn}
 use Rattle.adding.specs.Adding.{addLines, adding}
 use Rattle.adding.proofs.Laws as law
 use Rattle.dealing.specs.Deal.{dealPieces}
-use Rattle.pile.specs.Blocks.{restFrom, word}
+use Rattle.pile.specs.Blocks.{restFrom}
 use Rattle.joining.proofs.Laws.{joins-then, then-joins}
 use Rattle.demands.specs.Group.{members, gathers, gathered}
 use Rattle.demands.specs.Renewal as demand
@@ -39,12 +40,12 @@ sum-joins one two new room w v same accepted e f =
     )
 
 pub old-and-new : demand.OldAndNew
-unfolding restFrom
 old-and-new one two new room e pile a b h k is old lent w joins =
     let t = law.add-exactly one two new room 1 .0 e .0 in
-    let same : word pile a 2 ≡ word pile b 2 = ap (λ (d : DealWords). d .number) (then-joins pile lent w joins .sound .one-deal a b h k) in
-    ⊎-elim (λ (x : word pile b 2 ≡ word one 1 2). t .unlike-one (sym is ∙ same ∙ x))
-    (λ (x : word pile b 2 ≡ word two 1 2). t .unlike-two (sym is ∙ same ∙ x)) old
+    let same : pairIn (restFrom pile a) ≡ pairIn (restFrom pile b) =
+    ap (λ (d : DealWords). pairOf (d .number) (d .year)) (then-joins pile lent w joins .sound .one-deal a b h k) in
+    ⊎-elim (λ (x : pairIn (restFrom pile b) ≡ pairIn one). t .unlike-one (sym is ∙ same ∙ x))
+    (λ (x : pairIn (restFrom pile b) ≡ pairIn two). t .unlike-two (sym is ∙ same ∙ x)) old
 
 -- ---- the new cards
 pub renewed-card : demand.RenewedCard

@@ -1,5 +1,5 @@
--- A block of a deal and that of a deal of zeros, added, are the block of the renewed deal: the same label under the new number, and the values of the
--- same secret with the added randomness. Assumes nothing.
+-- A block of a deal and that of a deal of zeros, added, are the block of the renewed deal: the same label under the new number and year, and the values
+-- of the same secret with the added randomness. Assumes nothing.
 use Prim.Native.Nat.{ℕ, zero, suc, _-_, _*_, _≤_}
 use mathlib.Core.Path.{_≡_, refl, sym, ap, ap₂, subst, _∙_}
 use mathlib.Core.List.{List, [], append-nil}
@@ -16,7 +16,8 @@ use Rattle.block.specs.Layout.{heldAt, labelOf, valuesOf}
 use Rattle.block.specs.Open.{TrueBlock}
 use Rattle.block.specs.Written.{blockBytes}
 use Rattle.block.proofs.Laws.{written-words}
-use Rattle.adding.specs.Sum.{labelUnder, sumOf}
+use Rattle.adding.specs.declared.Pair.{Pair}
+use Rattle.adding.specs.Sum.{pairOf, labelUnder, sumOf}
 use Rattle.adding.specs.Adding.{adding}
 use Rattle.adding.specs.Laws.{Addable}
 use Rattle.adding.proofs.Laws.{add-exactly}
@@ -36,16 +37,16 @@ module _ (d : Deal) (f : InRange d) (i j : ℕ) (least : 1 ≤ i) (most : i ≤ 
   own-true : TrueBlock (blockOf d i j)
   own-true = subst TrueBlock (append-nil (blockOf d i j)) (block-true d f i j least most has [])
 
--- ---- the deal of zeros
-abbrev pub zeroDeal : Deal → ℕ → List ℕ → Deal
-zeroDeal d number random = dealFrom (d .policy) number (replicate (length (d .secret)) 0) random
+-- ---- the deal of zeros, under this number and year
+abbrev pub zeroDeal : Deal → Pair → List ℕ → Deal
+zeroDeal d own random = dealFrom (d .policy) (own .number) (own .year) (replicate (length (d .secret)) 0) random
 
 -- a renewal's is one
-pub as-zeros : {d z : Deal} {new : ℕ} → Renewal d z new → z ≡ zeroDeal d (z .number) (z .random)
-as-zeros {z = z} r = λ t. dealFrom (r .policy t) (z .number) (r .zeros t) (z .random)
+pub as-zeros : {d z : Deal} {new : Pair} → Renewal d z new → z ≡ zeroDeal d (pairOf (z .number) (z .year)) (z .random)
+as-zeros {z = z} r = λ t. dealFrom (r .policy t) (z .number) (z .year) (r .zeros t) (z .random)
 
--- words 3 to 7 of two labels that differ in the number alone
-held-alike : (l : Label) (n : ℕ) (vs us : List ℕ) (a : ℕ) → 3 ≤ a → a ≤ 7 → heldAt l vs a ≡ heldAt (labelUnder n l) us a
+-- words 3 to 7 of two labels that differ in number and year alone
+held-alike : (l : Label) (n : Pair) (vs us : List ℕ) (a : ℕ) → 3 ≤ a → a ≤ 7 → heldAt l vs a ≡ heldAt (labelUnder n l) us a
 unfolding heldAt
 held-alike l n vs us zero low high = absurd (omega arith)
 held-alike l n vs us (suc zero) low high = absurd (omega arith)
@@ -57,9 +58,9 @@ held-alike l n vs us (suc (suc (suc (suc (suc (suc zero)))))) low high = refl
 held-alike l n vs us (suc (suc (suc (suc (suc (suc (suc zero))))))) low high = refl
 held-alike l n vs us (suc (suc (suc (suc (suc (suc (suc (suc a)))))))) low high = absurd (omega arith)
 
-module _ (d : Deal) (number : ℕ) (random : List ℕ) (new : ℕ) (r : Renewal d (zeroDeal d number random) new) where
+module _ (d : Deal) (own : Pair) (random : List ℕ) (new : Pair) (r : Renewal d (zeroDeal d own random) new) where
   abbrev z : Deal
-  z = zeroDeal d number random
+  z = zeroDeal d own random
 
   old-in : InRange d
   old-in = made-in-range d (r .old)
@@ -87,6 +88,7 @@ module _ (d : Deal) (number : ℕ) (random : List ℕ) (new : ℕ) (r : Renewal 
           least = old-in .ready .least;
           most = old-in .ready .most;
           number-in = r .number-in;
+          year-in = r .year-in;
           holder-in = old-in .ready .holder-in;
           width-in = old-in .ready .width-in;
           secret-in = old-in .ready .secret-in;
@@ -105,7 +107,7 @@ module _ (d : Deal) (number : ℕ) (random : List ℕ) (new : ℕ) (r : Renewal 
     unfolding heldBy
     zero-has = has
 
-    same-label : label z i j ≡ labelUnder number (label d i j)
+    same-label : label z i j ≡ labelUnder own (label d i j)
     unfolding label dealPieces
     same-label = rw (length-replicate {A = ℕ} (length (d .secret)) 0)
 
@@ -121,12 +123,13 @@ module _ (d : Deal) (number : ℕ) (random : List ℕ) (new : ℕ) (r : Renewal 
           true-two = own-true z zero-in i j least most zero-has;
           alike = λ a low high.
               one .0 a (omega arith) (omega arith)
-              ∙ held-alike (label d i j) number (pieceValues d j) (pieceValues z j) a low high
+              ∙ held-alike (label d i j) own (pieceValues d j) (pieceValues z j) a low high
               ∙ ap (λ (l : Label). heldAt l (pieceValues z j) a) (sym same-label)
               ∙ sym (two .0 a (omega arith) (omega arith));
           number-in = r .number-in;
-          unlike-one = λ e. r .unlike-old (e ∙ ap (λ (l : Label). l .deal .number) (one .1));
-          unlike-two = λ e. r .unlike-zero (e ∙ ap (λ (l : Label). l .deal .number) (two .1));
+          year-in = r .year-in;
+          unlike-one = λ e. r .unlike-old (e ∙ ap (λ (l : Label). pairOf (l .deal .number) (l .deal .year)) (one .1));
+          unlike-two = λ e. r .unlike-zero (e ∙ ap (λ (l : Label). pairOf (l .deal .number) (l .deal .year)) (two .1));
           fits = le-refl 512;
         }
 

@@ -14,6 +14,7 @@ use Rattle.field.specs.Pieces.{Other}
 use Rattle.field.specs.Renewing.{eitherValues, PairedTwo}
 use Rattle.field.proofs.Laws.{paired-two-some}
 use Rattle.planning.specs.Groups.{holds}
+use Rattle.adding.specs.declared.Pair.{Pair}
 use Rattle.dealing.specs.Deal.{Deal, again, dealPieces, heldBy, pieceValues, card}
 use Rattle.dealing.proofs.HeldLaws.{card-depends, held-in}
 use Rattle.dealing.proofs.MadeLaws.{InRange, made-in-range, again-in-range, in-range-made}
@@ -29,9 +30,9 @@ use Rattle.demands.proofs.RenewalCards.{by-zeros, new-card}
 others : (d : Deal) (i m : ℕ) → holds (d .policy .people) (d .policy .required) i m ≡ false → (j : ℕ) → j ∈ heldBy d i → Other (dealPieces d) m j
 others d i m none j h = let b = held-in d i j h in record { least = b .0; most = b .1; unlike = other-piece d i m j none h }
 
-module _ (d : Deal) (number : ℕ) (random : List ℕ) (new : ℕ) (r : Renewal d (zeroDeal d number random) new) where
+module _ (d : Deal) (own : Pair) (random : List ℕ) (new : Pair) (r : Renewal d (zeroDeal d own random) new) where
   abbrev z : Deal
-  z = zeroDeal d number random
+  z = zeroDeal d own random
 
   old-in : InRange d
   old-in = made-in-range d (r .old)
@@ -52,6 +53,7 @@ module _ (d : Deal) (number : ℕ) (random : List ℕ) (new : ℕ) (r : Renewal 
       policy = refl;
       zeros = refl;
       number-in = r .number-in;
+      year-in = r .year-in;
       unlike-old = r .unlike-old;
       unlike-zero = r .unlike-zero;
     }
@@ -67,7 +69,7 @@ module _ (d : Deal) (number : ℕ) (random : List ℕ) (new : ℕ) (r : Renewal 
     -- whose values are the sums
     is-sum : (j : ℕ) → pieceValues sum j ≡ eitherValues (dealPieces d - 1) secret q (inr j)
     unfolding pieceValues dealPieces
-    is-sum j = sym (sum-values (again d secret (q .0)) number (q .1) new again-renewal j)
+    is-sum j = sym (sum-values (again d secret (q .0)) own (q .1) new again-renewal j)
 
   -- ---- the pairing
   module _ (g h : ℕ) (group : Group d g) (none : ¬ Contains d g) (group′ : Group d h) (none′ : ¬ Contains d h)
@@ -112,9 +114,9 @@ module _ (d : Deal) (number : ℕ) (random : List ℕ) (new : ℕ) (r : Renewal 
     hidden-zeros : Hidden (Lent d (d .secret)) (Lent d other) (seen d z new (d .secret)) (seen d z new other) (Sees d g h)
     hidden-zeros = record { pairs = pairing .pairs; same = all-same }
 
-pub hidden : (d z : Deal) (new : ℕ) → Renewal d z new → (g h : ℕ) → Group d g → ¬ Contains d g → Group d h → ¬ Contains d h
+pub hidden : (d z : Deal) (new : Pair) → Renewal d z new → (g h : ℕ) → Group d g → ¬ Contains d g → Group d h → ¬ Contains d h
     → (other : List ℕ) → length other ≡ length (d .secret) → Below other
     → Hidden (Lent d (d .secret)) (Lent d other) (seen d z new (d .secret)) (seen d z new other) (Sees d g h)
 hidden d z new r g h group none group′ none′ other e b =
     by-zeros d new (λ (x : Deal). Hidden (Lent d (d .secret)) (Lent d other) (seen d x new (d .secret)) (seen d x new other) (Sees d g h))
-    (λ number random s. hidden-zeros d number random new s g h group none group′ none′ other e b) z r
+    (λ own random s. hidden-zeros d own random new s g h group none group′ none′ other e b) z r

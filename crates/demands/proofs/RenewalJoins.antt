@@ -24,6 +24,7 @@ use Rattle.block.proofs.WordLaws.{word-front}
 use Rattle.block.proofs.BodyLaws.{length-block}
 use Rattle.block.proofs.LayoutLaws.{values-at, values-count}
 use Rattle.block.proofs.Laws.{opens-written, written-words}
+use Rattle.adding.specs.declared.Pair.{Pair}
 use Rattle.adding.specs.Sum.{labelUnder, sumOf}
 use Rattle.adding.specs.Adding.{adding}
 use Rattle.adding.specs.Laws.{Addable}
@@ -46,12 +47,12 @@ block-word pile a h i l u =
     sym (word-front (take 512 (restFrom pile a)) (drop 512 (restFrom pile a)) i l (omega arith))
     ∙ ap (λ (b : List ℕ). wordAt b i) (take-append-drop 512 (restFrom pile a))
 
--- a deal's words under another number
-abbrev under : ℕ → DealWords → DealWords
-under new d = record { number = new; people = d .people; pieces = d .pieces; width = d .width }
+-- a deal's words under another number and year
+abbrev under : Pair → DealWords → DealWords
+under new d = record { number = new .number; people = d .people; pieces = d .pieces; width = d .width; year = new .year }
 
 -- ---- the sums
-module _ (one two : List ℕ) (new : ℕ) (same : blocks one ≡ blocks two)
+module _ (one two : List ℕ) (new : Pair) (same : blocks one ≡ blocks two)
     (accepted : (a : ℕ) → In one a → adding (blockAt one a) (blockAt two a) new 512 ≡ done 1) where
   abbrev sum : ℕ → List ℕ
   sum a = sumOf (blockAt one a) (blockAt two a) new
@@ -127,10 +128,11 @@ module _ (one two : List ℕ) (new : ℕ) (same : blocks one ≡ blocks two)
         ap (λ (l : Label). l .deal) sum-label
         ∙ (λ t.
         record {
-          number = new;
+          number = new .number;
           people = at 4 (omega arith) (omega arith) t;
           pieces = at 5 (omega arith) (omega arith) t;
           width = at 6 (omega arith) (omega arith) t;
+          year = new .year;
         })
 
     sum-piece : pieceAt sums a ≡ pieceAt one a

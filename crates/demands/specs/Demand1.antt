@@ -22,7 +22,7 @@ use Rattle.block.specs.Layout.{frontWords}
 use Rattle.block.specs.Open.{above, torn, unread, check, header, blockLines, opening, TrueBlock}
 use Rattle.block.specs.Laws.{Refusable}
 use Rattle.dealing.specs.Deal.{Deal, dealPieces}
-use Rattle.block.specs.Deals.{badNumber}
+use Rattle.block.specs.Deals.{badNumber, badYear}
 use Rattle.dealing.specs.Dealt.{badHolder, badWidth, badSecret, badCount, badRandom, blockCount, dealLines, dealing, dealtInto}
 use Rattle.pile.specs.Blocks.{blocks, restFrom, word, In}
 use Rattle.pile.specs.Lines.{tornPile, longPile, everyBlock}
@@ -89,6 +89,7 @@ abbrev pub DealOrder : Type 0
 DealOrder = (d : Deal) (holder room : ℕ) → dealLines d holder room
     ≡ planLines (d .policy)
     ++ badNumber (d .number)
+    ∷ badYear (d .year)
     ∷ badHolder (d .policy .people) holder
     ∷ badWidth (d .secret) ∷ badSecret (d .secret)
     ∷ badCount (dealPieces d - 1) (d .secret) (d .random) ∷ badRandom (d .random)

@@ -60,8 +60,8 @@ pub record KeyMade (d : Deal) (key : List ℕ) : Type 0 where
 
 -- Such a deal is one that dealing a key makes, and no other: of bytes, all below 256, it made a card only where there are 16.
 abbrev pub KeyDealMade : Type 0
-KeyDealMade = (policy : Policy) (number : ℕ) (key random : List ℕ) → ((i : ℕ) → getD key i 0 ≤ 255)
-    → Made (keyDeal policy number key random) → KeyMade (keyDeal policy number key random) key
+KeyDealMade = (policy : Policy) (number year : ℕ) (key random : List ℕ) → ((i : ℕ) → getD key i 0 ≤ 255)
+    → Made (keyDeal policy number year key random) → KeyMade (keyDeal policy number year key random) key
 
 -- If the group is authorised, the pile joins to the key, byte for byte, where there is room for it; the rest of the output is as it was.
 abbrev pub KeyOpens : Type 0

@@ -9,6 +9,7 @@ use Rattle.answer.proofs.LentLaws as lent
 use Rattle.field.specs.Secret.{column}
 use Rattle.field.proofs.SecretLaws.{secret-length, secret-at}
 use Rattle.field.proofs.Laws.{by-differences}
+use Rattle.block.specs.declared.deal.DealWords.{DealWords}
 use Rattle.joining.specs.Pile.{ownPieces, ownWidth, valueAt}
 use Rattle.joining.specs.Joined.{joining, joinedInto}
 use Rattle.joining.specs.Secret.{secret}
@@ -21,6 +22,7 @@ use Rattle.joining.proofs.SoundLaws as sound
 use Rattle.joining.proofs.PolyLaws as poly
 use Rattle.joining.proofs.OrderLaws as order
 use Rattle.joining.proofs.WrittenLaws as written
+use Rattle.joining.proofs.EarlierLaws as earlier
 
 pub joins-then : law.JoinsThen
 joins-then = sound.joins-then
@@ -73,6 +75,10 @@ mixed-blames = mixed.mixed-blames
 pub old-on-top : law.OldOnTop
 old-on-top = mixed.old-on-top
 
+pub year-tells : law.YearTells
+year-tells pile room a b w h g other e =
+    other (ap (λ (d : DealWords). d .year) (sound.then-joins pile room w e .sound .one-deal a b h g))
+
 pub joined-secret : law.JoinedSecret
 joined-secret pile room w i e l h =
     let t = sound.then-joins pile room w e in
@@ -106,3 +112,6 @@ joiners-agree = written.joiners-agree
 pub secret-by-differences : law.SecretByDifferences
 secret-by-differences pile i l h =
     secret-at (valueAt pile) (ownPieces pile) (ownWidth pile) i l h ∙ sym (by-differences (column (valueAt pile) (ownPieces pile) i))
+
+pub earlier-join : law.EarlierJoin
+earlier-join pile room none = (earlier.earlier-answer pile none room, earlier.earlier-secret pile none)

@@ -10,6 +10,7 @@ pub mod SecretLaws
 pub mod SoundLaws
 pub mod PolyLaws
 pub mod OrderLaws
+pub mod EarlierLaws
 pub mod WrittenLaws
 pub mod Laws
 pub mod Joiners

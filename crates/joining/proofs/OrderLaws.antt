@@ -32,6 +32,7 @@ module _ {pile other : List ℕ} {a b : ℕ} (same : Alike pile a other b) where
         same .words 4 (omega arith) (omega arith) (λ e. omega arith),
         same .words 5 (omega arith) (omega arith) (λ e. omega arith),
         same .words 6 (omega arith) (omega arith) (λ e. omega arith),
+        same .words 24 (omega arith) (omega arith) (λ e. omega arith),
       )
 
   piece-same : pieceAt pile a ≡ pieceAt other b

@@ -23,6 +23,7 @@ use Rattle.joining.specs.Pile.{heapOf, heap, ownBlock, ownDeal, ownPiece
 use Rattle.joining.specs.Checks.{strays, contradictedBy, conflictAt}
 use Rattle.joining.specs.Joined.{joining, joinedInto}
 use Rattle.joining.specs.Secret.{secret}
+use Rattle.joining.specs.Earlier.{formerJoining, formerSecret}
 
 -- a pile of whole, true blocks, at most 560, that are of one deal and say the same of each piece
 pub record Sound (pile : List ℕ) : Type 0 where
@@ -125,6 +126,10 @@ abbrev pub OldOnTop : Type 0
 OldOnTop = (pile : List ℕ) (room : ℕ) (d : DealWords) → Mixes pile → blocks pile < 2 * heapOf pile d → dealAt pile 1 ≢ d
     → joining pile room ≡ refused (number Mixed) 1 0
 
+-- A pile with blocks of two years does not join, whatever else they have in common.
+abbrev pub YearTells : Type 0
+YearTells = (pile : List ℕ) (room a b w : ℕ) → In pile a → In pile b → word pile a 24 ≢ word pile b 24 → joining pile room ≢ done w
+
 -- cs are the coefficients of a polynomial of degree less than k that has value i of piece j at j, for every block of the pile
 pub record Fits (pile : List ℕ) (i : ℕ) (cs : List ℕ) : Type 0 where
   pub degree : length cs ≡ ownPieces pile
@@ -182,3 +187,9 @@ JoinersAgree = (pile old : List ℕ) (x y : Answer) (a b : List ℕ) → JoinPro
 abbrev pub SecretByDifferences : Type 0
 SecretByDifferences = (pile : List ℕ) (i : ℕ) → 1 ≤ i → i ≤ ownWidth pile
     → getD (secret pile) (i - 1) 0 ≡ byDifferences (column (valueAt pile) (ownPieces pile) i)
+
+-- ---- cards made before there was a year
+-- Of a pile of blocks that carry 0 in word 24 joining answers what it answered, and gives the secret that it gave.
+abbrev pub EarlierJoin : Type 0
+EarlierJoin = (pile : List ℕ) (room : ℕ) → ((a : ℕ) → In pile a → word pile a 24 ≡ 0)
+    → (joining pile room ≡ formerJoining pile room) × (secret pile ≡ formerSecret pile)

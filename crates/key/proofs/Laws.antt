@@ -24,7 +24,7 @@ use Rattle.packing.proofs.PackLaws.{packed-ten, packed-small}
 use Rattle.packing.proofs.SayLaws.{not-key-means, no-wrong, says-few, says-wrong}
 use Rattle.planning.specs.Planned.{planLines}
 use Rattle.dealing.specs.Deal.{dealPieces}
-use Rattle.block.specs.Deals.{badNumber}
+use Rattle.block.specs.Deals.{badNumber, badYear}
 use Rattle.dealing.specs.Dealt.{badHolder, badWidth, badSecret, badCount, badRandom, inputLines, blockCount, dealLines, dealing}
 use Rattle.pile.specs.Blocks.{blocks}
 use Rattle.pile.specs.Lines.{tornPile, longPile, everyBlock}
@@ -55,18 +55,22 @@ unfolding keySecret badWidth
 width-line key = ap (λ (x : Bool). line Secret x 0 0) (width key (eqb (length key) 16))
 
 pub key-deal-order : law.KeyDealOrder
-unfolding dealing dealLines inputLines firstFail badSecret badNumber badHolder badWidth
-key-deal-order policy deal key random holder room =
-    let d = keyDeal policy deal key random in
+unfolding dealing dealLines inputLines firstFail badSecret badNumber badYear badHolder badWidth
+key-deal-order policy deal year key random holder room =
+    let d = keyDeal policy deal year key random in
     let one = badNumber deal in
-    let two = badHolder (policy .people) holder in
+    let two = badYear year in
+    let three = badHolder (policy .people) holder in
     let rest = badCount (dealPieces d - 1) (keySecret key) random ∷ badRandom random ∷ noRoom (512 * blockCount d holder) (blockCount d holder) room ∷ [] in
     let end : Outcome ℕ = done (blockCount d holder) in
     same-after (planLines policy) _ _ end end
     (λ p.
-    ap (λ (o : Outcome ℕ). pick (one .given) (refused 8 0 0) (pick (two .given) (refused 9 0 0) (pick (badWidth (keySecret key) .given) (refused 10 0 0) o)))
+    ap
+    (λ (o : Outcome ℕ).
+    pick (one .given) (refused 8 0 0)
+    (pick (two .given) (refused 25 0 0) (pick (three .given) (refused 9 0 0) (pick (badWidth (keySecret key) .given) (refused 10 0 0) o))))
     (not-given (badSecret (keySecret key)) rest end (none-large key))
-    ∙ ap (λ (l : Line). firstFail (one ∷ two ∷ l ∷ rest) end) (width-line key))
+    ∙ ap (λ (l : Line). firstFail (one ∷ two ∷ three ∷ l ∷ rest) end) (width-line key))
 
 -- ---- NOTKEY comes from behind the pile's lines
 record Behind (pile : List ℕ) (room a b : ℕ) : Type 0 where

@@ -13,5 +13,5 @@ unfoldable pub keySecret : List ℕ → List ℕ
 keySecret key = cond (eqb (length key) 16) (packed key) []
 
 -- the deal of a key
-abbrev pub keyDeal : Policy → ℕ → List ℕ → List ℕ → Deal
-keyDeal policy number key random = dealFrom policy number (keySecret key) random
+abbrev pub keyDeal : Policy → ℕ → ℕ → List ℕ → List ℕ → Deal
+keyDeal policy number year key random = dealFrom policy number year (keySecret key) random

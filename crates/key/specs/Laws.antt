@@ -16,7 +16,7 @@ use Rattle.packing.specs.Key.{KeyWords, wrongAt}
 use Rattle.planning.specs.Policy.{Policy}
 use Rattle.planning.specs.Planned.{planLines}
 use Rattle.dealing.specs.Deal.{dealPieces}
-use Rattle.block.specs.Deals.{badNumber}
+use Rattle.block.specs.Deals.{badNumber, badYear}
 use Rattle.dealing.specs.Dealt.{badHolder, badCount, badRandom, blockCount, dealing}
 use Rattle.joining.specs.Pile.{ownWidth}
 use Rattle.joining.specs.Joined.{joining}
@@ -26,12 +26,13 @@ use Rattle.key.specs.Joined.{joiningKey}
 
 -- Dealing a key looks at what dealing does, in its order; of the key only whether there are 16 bytes.
 abbrev pub KeyDealOrder : Type 0
-KeyDealOrder = (policy : Policy) (deal : ℕ) (key random : List ℕ) (holder room : ℕ)
-    → let d = keyDeal policy deal key random in
+KeyDealOrder = (policy : Policy) (deal year : ℕ) (key random : List ℕ) (holder room : ℕ)
+    → let d = keyDeal policy deal year key random in
     dealing d holder room
     ≡ firstFail
     (planLines policy
     ++ badNumber deal
+    ∷ badYear year
     ∷ badHolder (policy .people) holder
     ∷ line Secret (not (eqb (length key) 16)) 0 0
     ∷ badCount (dealPieces d - 1) (keySecret key) random ∷ badRandom random

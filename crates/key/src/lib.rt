@@ -14,6 +14,7 @@ pub fn deal_key(
     required: &[u16],
     forbidden: &[u16],
     deal_number: usize,
+    year: usize,
     holder: usize,
     key: &[u8],
     random: &[u16],
@@ -21,11 +22,11 @@ pub fn deal_key(
 ) -> Answer
     ensures says { λ r.
         let policy = policyOf people (now (required .entry)) (now (forbidden .entry)) in
-        let d = keyDeal policy «deal_number» (now (key .entry)) (now (random .entry)) in
+        let d = keyDeal policy «deal_number» year (now (key .entry)) (now (random .entry)) in
         ⌜ outcome r ≡ dealing d holder (length (now (out .entry))) ⌝ }
     ensures leaves { λ r.
         let policy = policyOf people (now (required .entry)) (now (forbidden .entry)) in
-        let d = keyDeal policy «deal_number» (now (key .entry)) (now (random .entry)) in
+        let d = keyDeal policy «deal_number» year (now (key .entry)) (now (random .entry)) in
         ⌜ now (out .exit) ≡ dealtInto d holder (now (out .entry)) ⌝ }
 {
     let packed = packing::pack(key);
@@ -36,6 +37,7 @@ pub fn deal_key(
             required,
             forbidden,
             deal_number,
+            year,
             holder,
             &words[..0],
             random,
@@ -47,6 +49,7 @@ pub fn deal_key(
         required,
         forbidden,
         deal_number,
+        year,
         holder,
         &words,
         random,

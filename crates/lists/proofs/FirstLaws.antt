@@ -203,6 +203,18 @@ below-in t i e h =
     let some : firstIn t i e ≡ 0 → ⊥ = h in
     omega (arith, has-test t i e h .1, below-from t (e - i) i)
 
+-- a search in two parts: what the part before m finds is what is found, and where it finds nothing, what the rest finds
+pub first-part : (t : ℕ → Bool) (i m e : ℕ) → m ≤ e → firstIn t i m ≢ 0 → firstIn t i e ≡ firstIn t i m
+first-part t i m e l h =
+    let q = has-test t i m h in
+    let r = first-of t i m (firstIn t i m) (q .1) (below-in t i m h) (q .0) .0 in
+    is-first t i e (firstIn t i m) (record { from = r .from; to = omega (arith, r .to); has = r .has; least = r .least })
+
+pub first-past : (t : ℕ → Bool) (i m e : ℕ) → 1 ≤ i → i ≤ m → m ≤ e → firstIn t i m ≡ 0 → firstIn t i e ≡ firstIn t m e
+first-past t i m e from l h z =
+    let s : i + (m - i) ≡ m = omega arith in
+    skip t (m - i) i e (omega arith) (λ k u v. none-in t i m from z k u (omega arith)) ∙ ap (λ (x : ℕ). firstIn t x e) s
+
 -- ---- the first place in a list, as a loop over indices from 0 looks for it: at index i, place i + 1 is next
 module _ (test : ℕ → Bool) (l : List ℕ) where
   abbrev pub ahead : ℕ → ℕ

@@ -1,10 +1,13 @@
--- The blocks whose lines passed are true, and the lines of true blocks pass. Assumes nothing.
-use mathlib.Core.Path.{_≡_}
+-- The blocks whose lines passed are true, and the lines of true blocks pass; and a pile's lines are its blocks', in order. Assumes nothing.
+use mathlib.Core.Path.{_≡_, refl, ap₂}
 use mathlib.Core.Logic.{⊎-elim}
-use mathlib.Core.List.{List}
+use mathlib.Core.List.{List, _++_, flatMap}
 use Prim.Native.Nat.{ℕ, zero, suc, _+_, _≤_, _<_}
 use native.Mathlib.Nat.{le-refl, eq-or-lt-of-le}
+use native.Mathlib.Numerals.{add-one}
 use native.Mathlib.Omega.{arith}
+use Rattle.lists.specs.Run.{run}
+use Rattle.answer.specs.Checks.{Line}
 use Rattle.answer.specs.Laws.{Passed}
 use Rattle.answer.proofs.CheckLaws.{passed-none, passed-append, passed-both}
 use Rattle.block.specs.Open.{TrueBlock, blockLines}
@@ -37,3 +40,12 @@ true-lines pile (suc n) a h =
 pub true-blocks : (pile : List ℕ) → TrueBlocks pile → Passed (everyBlock pile)
 unfolding everyBlock
 true-blocks pile t = true-lines pile (blocks pile) 1 (λ b l m. t .block b l (omega arith))
+
+-- ---- blocks in pile order: the lines of n of them, one block after the other, whatever these lines are written as
+pub in-order : (pile : List ℕ) (lines : ℕ → List Line) (n a : ℕ) → ((b : ℕ) → a ≤ b → b < a + n → blockLines (restFrom pile b) b ≡ lines b)
+    → linesFrom pile a n ≡ flatMap lines (run (λ b. b) a n)
+unfolding linesFrom flatMap run
+in-order pile lines zero a h = refl
+in-order pile lines (suc n) a h =
+    ap₂ (λ (ls ms : List Line). ls ++ ms) (h a (le-refl a) (omega arith))
+    (rw (add-one a) (in-order pile lines n (suc a) (λ b l m. h b (omega arith) (omega arith))))

@@ -69,6 +69,7 @@ fn p11() -> [u8; 600]
         people: 4,
         pieces: 3,
         width: 1,
+        year: 0,
     };
     let l = Label {
         deal: deal,
@@ -134,6 +135,8 @@ fn main() {
     case(7, 0, 12018);
     case(7, 4, 12046);
     case(9, 1, 12034);
+    case(23, 1, 12048);
+    case(25, 1, 12050);
     case(255, 1, 12280);
     // the largest of each that are right
     case(2, 32748, 12009);
@@ -141,4 +144,8 @@ fn main() {
     case(5, 70, 12360);
     case(6, 16, 12115);
     case(7, 3, 12039);
+    // the year, whatever it is, but for a slot that is UNREAD
+    case(24, 2026, 27900);
+    case(24, 32748, 12001);
+    case(24, 32749, 12025);
 }

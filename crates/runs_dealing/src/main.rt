@@ -2,14 +2,16 @@
 // out, which is compared with `stdout`.
 mod eight;
 mod show;
+mod years;
 
 // Deals one card into the first `room` bytes of what is lent, and prints the answer under its name.
-fn deal(
+pub fn deal(
     name: &[u8],
     people: usize,
     required: &[u16],
     forbidden: &[u16],
     deal_number: usize,
+    year: usize,
     holder: usize,
     secret: &[u16],
     random: &[u16],
@@ -25,6 +27,7 @@ fn deal(
             required,
             forbidden,
             deal_number,
+            year,
             holder,
             secret,
             random,
@@ -34,7 +37,7 @@ fn deal(
     }
 }
 
-// The same into the first of 18000 bytes, all of them 9.
+// The same in the year 0 into the first of 18000 bytes, all of them 9.
 pub fn case(
     name: &[u8],
     people: usize,
@@ -53,6 +56,7 @@ pub fn case(
         required,
         forbidden,
         deal_number,
+        0,
         holder,
         secret,
         random,
@@ -285,6 +289,7 @@ fn main() {
     holders();
     cards();
     ranges();
+    years::years();
     lengths();
     policies();
     bad_policies();

@@ -51,8 +51,8 @@ fn case(by_differences: bool, name: &[u8], pile: &[u8], out: &mut [u16]) {
     io::write_all(1, b"\n");
 }
 
-// A holder's card of a deal of the secret 1234, 5678 to two people, under this number, into what is lent from byte `at` on: one block.
-fn card(deal: usize, holder: usize, out: &mut [u8], at: usize) {
+// A holder's card of a deal of the secret 1234, 5678 to two people, under this number and year, into what is lent from byte `at` on: one block.
+fn card(deal: usize, year: usize, holder: usize, out: &mut [u8], at: usize) {
     let none = [0u16; 0];
     let required = [3u16];
     let secret = [1234u16, 5678];
@@ -63,6 +63,7 @@ fn card(deal: usize, holder: usize, out: &mut [u8], at: usize) {
             &required,
             &none,
             deal,
+            year,
             holder,
             &secret,
             &random,
@@ -74,8 +75,8 @@ fn card(deal: usize, holder: usize, out: &mut [u8], at: usize) {
 // Both cards of that deal, with less and with more room than the secret needs.
 fn rooms(by_differences: bool) {
     let mut cards = [0u8; 1024];
-    card(7, 1, &mut cards, 0);
-    card(7, 2, &mut cards, 512);
+    card(7, 0, 1, &mut cards, 0);
+    card(7, 0, 2, &mut cards, 512);
     let mut no_words = [0u16; 0];
     let mut one = [9u16];
     let mut two = [9u16, 9];
@@ -112,10 +113,10 @@ fn piles(by_differences: bool) {
 // Four blocks of the deals of these numbers, of both holders in turns, as a pile.
 fn deals(by_differences: bool, name: &[u8], one: usize, two: usize, three: usize, four: usize) {
     let mut cards = [0u8; 2048];
-    card(one, 1, &mut cards, 0);
-    card(two, 2, &mut cards, 512);
-    card(three, 1, &mut cards, 1024);
-    card(four, 2, &mut cards, 1536);
+    card(one, 0, 1, &mut cards, 0);
+    card(two, 0, 2, &mut cards, 512);
+    card(three, 0, 1, &mut cards, 1024);
+    card(four, 0, 2, &mut cards, 1536);
     let mut words = [9u16; 2];
     case(by_differences, name, &cards, &mut words);
 }
@@ -145,6 +146,15 @@ fn other_heaps(by_differences: bool) {
     deals(by_differences, b"one deal:", 7, 7, 7, 7);
 }
 
+// Both cards of one number, of one year and of two.
+fn years(by_differences: bool, name: &[u8], one: usize, two: usize) {
+    let mut cards = [0u8; 1024];
+    card(7, one, 1, &mut cards, 0);
+    card(7, two, 2, &mut cards, 512);
+    let mut words = [9u16; 2];
+    case(by_differences, name, &cards, &mut words);
+}
+
 // All of it, by one of the joiners.
 fn cases(by_differences: bool) {
     rooms(by_differences);
@@ -152,6 +162,9 @@ fn cases(by_differences: bool) {
     old_cards(by_differences);
     equal_heaps(by_differences);
     other_heaps(by_differences);
+    years(by_differences, b"one year:", 2026, 2026);
+    years(by_differences, b"two years:", 2026, 2025);
+    years(by_differences, b"a card made earlier:", 2026, 0);
 }
 
 fn main() {

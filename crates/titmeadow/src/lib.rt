@@ -1,4 +1,5 @@
 // The functions for firmware, exported for C (include/titmeadow.h). Each is a thin function over one proved function.
+use adding::Pair;
 use answer::Answer;
 use block::Opened;
 use block::Words;
@@ -16,6 +17,7 @@ ghost use Rattle.dealing.specs.Deal.{dealFrom};
 ghost use Rattle.dealing.specs.Dealt.{dealing, dealtInto};
 ghost use Rattle.joining.specs.Joined.{joining, joinedInto};
 ghost use Rattle.salvage.specs.Pile.{salvaging, salvagedPile, salvagedList};
+ghost use Rattle.adding.specs.Sum.{pairOf};
 ghost use Rattle.adding.specs.Adding.{adding, sumInto};
 ghost use Rattle.packing.specs.Key.{packing, unpacking, unpackedInto};
 ghost use Rattle.key.specs.Dealt.{keyDeal};
@@ -113,19 +115,21 @@ pub extern "C" fn titmeadow_deal(
     required: &[u16],
     forbidden: &[u16],
     deal: usize,
+    year: usize,
     holder: usize,
     secret: &[u16],
     random: &[u16],
     card: &mut [u8],
 ) -> Said
-    ensures says { λ r. ⌜ r ≡ said (dealing (dealFrom (policyOf people (now (required .entry)) (now (forbidden .entry))) deal (now (secret .entry)) (now (random .entry))) holder (length (now (card .entry)))) ⌝ }
-    ensures leaves { λ r. ⌜ now (card .exit) ≡ dealtInto (dealFrom (policyOf people (now (required .entry)) (now (forbidden .entry))) deal (now (secret .entry)) (now (random .entry))) holder (now (card .entry)) ⌝ }
+    ensures says { λ r. ⌜ r ≡ said (dealing (dealFrom (policyOf people (now (required .entry)) (now (forbidden .entry))) deal year (now (secret .entry)) (now (random .entry))) holder (length (now (card .entry)))) ⌝ }
+    ensures leaves { λ r. ⌜ now (card .exit) ≡ dealtInto (dealFrom (policyOf people (now (required .entry)) (now (forbidden .entry))) deal year (now (secret .entry)) (now (random .entry))) holder (now (card .entry)) ⌝ }
 {
     said_of(dealing::deal(
         people,
         required,
         forbidden,
         deal,
+        year,
         holder,
         secret,
         random,
@@ -222,15 +226,26 @@ pub extern "C" fn titmeadow_deal_key(
     required: &[u16],
     forbidden: &[u16],
     deal: usize,
+    year: usize,
     holder: usize,
     key: &[u8],
     random: &[u16],
     card: &mut [u8],
 ) -> Said
-    ensures says { λ r. ⌜ r ≡ said (dealing (keyDeal (policyOf people (now (required .entry)) (now (forbidden .entry))) deal (now (key .entry)) (now (random .entry))) holder (length (now (card .entry)))) ⌝ }
-    ensures leaves { λ r. ⌜ now (card .exit) ≡ dealtInto (keyDeal (policyOf people (now (required .entry)) (now (forbidden .entry))) deal (now (key .entry)) (now (random .entry))) holder (now (card .entry)) ⌝ }
+    ensures says { λ r. ⌜ r ≡ said (dealing (keyDeal (policyOf people (now (required .entry)) (now (forbidden .entry))) deal year (now (key .entry)) (now (random .entry))) holder (length (now (card .entry)))) ⌝ }
+    ensures leaves { λ r. ⌜ now (card .exit) ≡ dealtInto (keyDeal (policyOf people (now (required .entry)) (now (forbidden .entry))) deal year (now (key .entry)) (now (random .entry))) holder (now (card .entry)) ⌝ }
 {
-    said_of(key::deal_key(people, required, forbidden, deal, holder, key, random, card))
+    said_of(key::deal_key(
+        people,
+        required,
+        forbidden,
+        deal,
+        year,
+        holder,
+        key,
+        random,
+        card,
+    ))
 }
 
 // The key of a pile into the front of `key`; the result is 16.
@@ -242,11 +257,21 @@ pub extern "C" fn titmeadow_join_key(pile: &[u8], key: &mut [u8]) -> Said
     said_of(key::join_key(pile, key))
 }
 
-// The sum of two blocks under a new deal number into the front of `block`; the result is 1, a number of blocks.
+// The sum of two blocks under a new deal number and year into the front of `block`; the result is 1, a number of blocks.
 #[no_mangle]
-pub extern "C" fn titmeadow_add(one: &[u8], two: &[u8], deal: usize, block: &mut [u8]) -> Said
-    ensures says { λ r. ⌜ r ≡ said (adding (now (one .entry)) (now (two .entry)) deal (length (now (block .entry)))) ⌝ }
-    ensures leaves { λ r. ⌜ now (block .exit) ≡ sumInto (now (one .entry)) (now (two .entry)) deal (now (block .entry)) ⌝ }
+pub extern "C" fn titmeadow_add(
+    one: &[u8],
+    two: &[u8],
+    deal: usize,
+    year: usize,
+    block: &mut [u8],
+) -> Said
+    ensures says { λ r. ⌜ r ≡ said (adding (now (one .entry)) (now (two .entry)) (pairOf deal year) (length (now (block .entry)))) ⌝ }
+    ensures leaves { λ r. ⌜ now (block .exit) ≡ sumInto (now (one .entry)) (now (two .entry)) (pairOf deal year) (now (block .entry)) ⌝ }
 {
-    said_of(adding::add(one, two, deal, block))
+    let new = Pair {
+        number: deal,
+        year: year,
+    };
+    said_of(adding::add(one, two, new, block))
 }

@@ -15,7 +15,7 @@ start c = c .before .before .before .before .before .before
 
 -- the two blocks add up
 adds : (c : tie.After-enum-told)
-    → let a = start c .args in Addable (a .one .now) (a .two .now) (a .number) (length (a .out .now))
+    → let a = start c .args in Addable (a .one .now) (a .two .now) (a .new) (length (a .out .now))
 adds c = addable _ _ _ _ _ (sym (c .before .before .check-add .ensures) ∙ ap outcome (c .enum-told .given .1)) .0
 
 write-sum-requires : tie.Need-write-sum-requires
@@ -26,15 +26,15 @@ returns c =
     let w = c .before .before in
     let t = w .before .before in
     let a = start t .args in
-    let e = of-addable (a .one .now) (a .two .now) (a .number) (length (a .out .now)) (adds t) in
-    (sym e, w .write-sum .ensures ∙ sym (sum-left (a .one .now) (a .two .now) (a .number) (a .out .now) 1 e))
+    let e = of-addable (a .one .now) (a .two .now) (a .new) (length (a .out .now)) (adds t) in
+    (sym e, w .write-sum .ensures ∙ sym (sum-left (a .one .now) (a .two .now) (a .new) (a .out .now) 1 e))
 
 returns-2 : tie.Need-returns-2
 returns-2 c =
     let f = c .before .before .before in
     let a = f .before .before .before .before .args in
     let e = sym (f .check-add .ensures) ∙ ap outcome (c .before .r .given .1) in
-    (sym e, sym (refusal-left (a .one .now) (a .two .now) (a .number) (a .out .now) _ _ _ e))
+    (sym e, sym (refusal-left (a .one .now) (a .two .now) (a .new) (a .out .now) _ _ _ e))
 
 pub add-spec : {M : Type 1} → statement M
 add-spec =

@@ -8,7 +8,7 @@ use Rattle.answer.specs.Checks.{Line, firstFail}
 use Rattle.answer.specs.Lent.{noRoom}
 use Rattle.answer.proofs.CheckLaws.{done-passed, stops, goes-on}
 use Rattle.answer.proofs.LentLaws.{room-refused, room-given}
-use Rattle.block.specs.Deals.{badNumber}
+use Rattle.block.specs.Deals.{badNumber, badYear}
 use Rattle.adding.specs.Adding.{oneLines, unlike, repeated, addLines, adding}
 use Rattle.adding.proofs.AddLaws.{lines-true}
 use Rattle.adding.proofs.check_add.Statement.{statement}
@@ -16,7 +16,12 @@ use Rattle.adding.proofs.check_add.Tie as tie
 
 -- the lines of the call after those of the blocks, and after those of both
 abbrev both : tie.Start → List Line
-both s = unlike (s .args .one .now) (s .args .two .now) ∷ badNumber (s .args .number) ∷ repeated (s .args .one .now) (s .args .two .now) (s .args .number) ∷ []
+both s =
+    unlike (s .args .one .now) (s .args .two .now)
+    ∷ badNumber (s .args .new .number)
+    ∷ badYear (s .args .new .year)
+    ∷ repeated (s .args .one .now) (s .args .two .now) (s .args .new)
+    ∷ []
 
 abbrev last : tie.Start → List Line
 last s = noRoom 512 1 (s .args .room) ∷ []
@@ -26,7 +31,7 @@ second s = oneLines (s .args .two .now) 2 ++ both s ++ last s
 
 -- what is answered, where these lines are left
 abbrev Left : tie.Start → List Line → Type 0
-Left s ls = adding (s .args .one .now) (s .args .two .now) (s .args .number) (s .args .room) ≡ firstFail ls (done 1)
+Left s ls = adding (s .args .one .now) (s .args .two .now) (s .args .new) (s .args .room) ≡ firstFail ls (done 1)
 
 left1 : (c : tie.After-enum-told) → let s = c .before .before .before .before .before in Left s (second s)
 unfolding adding addLines

@@ -25,14 +25,14 @@ added-values-requires c κs =
     ((y .true-one, y .true-two), (three .word3 .ensures, three .word3 .ensures ∙ widths y))
 
 array-share-prefix-made : tie.Need-array-share-prefix-made
-array-share-prefix-made c = omega (arith, few (c .before))
+array-share-prefix-made c = omega (arith, few (c .before .before .before))
 
 slice-aggregate-write-block : tie.Need-slice-aggregate-write-block
-slice-aggregate-write-block c = sym (length-take-le _ (c .before .before .added-values .result) (omega (arith, few (c .before .before))))
+slice-aggregate-write-block c = sym (length-take-le _ (c .before .before .before .before .added-values .result) (omega (arith, few (c .before .before .before .before))))
 
 write-block-requires : tie.Need-write-block-requires
 write-block-requires c κs =
-    let v = c .before .before in
+    let v = c .before .before .before .before in
     let five = v .before in
     let four = five .before in
     let three = four .before in
@@ -46,7 +46,7 @@ write-block-requires c κs =
 returns : tie.Need-returns
 returns c =
     let b = c .before .before in
-    let v = b .before .before .before in
+    let v = b .before .before .before .before .before in
     let five = v .before in
     let four = five .before in
     let three = four .before in
@@ -68,6 +68,7 @@ write-sum-spec =
     (λ c κs. search needs)
     (λ c. search needs)
     added-values-requires
+    (λ c. search needs)
     (λ c. search needs)
     array-share-prefix-made
     slice-aggregate-write-block

@@ -14,7 +14,7 @@ use Rattle.dealing.proofs.deal.Tie as tie
 -- the deal that is asked for
 abbrev asked : tie.Start → Deal
 asked s =
-    dealFrom (policyOf (s .args .people) (s .args .required .now) (s .args .forbidden .now)) (s .args .deal-number) (s .args .secret .now)
+    dealFrom (policyOf (s .args .people) (s .args .required .now) (s .args .forbidden .now)) (s .args .deal-number) (s .args .year) (s .args .secret .now)
     (s .args .random .now)
 
 -- planning answered k

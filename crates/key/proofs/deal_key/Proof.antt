@@ -21,19 +21,19 @@ module _ (c : tie.After-pack) where
 
   says : {s t : List ℕ} → s ≡ t
       → let a = c .before .before .before .before .before .before .args in
-      dealing (dealFrom policy (a .deal-number) s (now (a .random))) (a .holder) (length (now (a .out)))
-      ≡ dealing (dealFrom policy (a .deal-number) t (now (a .random))) (a .holder) (length (now (a .out)))
+      dealing (dealFrom policy (a .deal-number) (a .year) s (now (a .random))) (a .holder) (length (now (a .out)))
+      ≡ dealing (dealFrom policy (a .deal-number) (a .year) t (now (a .random))) (a .holder) (length (now (a .out)))
   says e =
       let a = c .before .before .before .before .before .before .args in
-      ap (λ (s : List ℕ). dealing (dealFrom policy (a .deal-number) s (now (a .random))) (a .holder) (length (now (a .out)))) e
+      ap (λ (s : List ℕ). dealing (dealFrom policy (a .deal-number) (a .year) s (now (a .random))) (a .holder) (length (now (a .out)))) e
 
   leaves : {s t : List ℕ} → s ≡ t
       → let a = c .before .before .before .before .before .before .args in
-      dealtInto (dealFrom policy (a .deal-number) s (now (a .random))) (a .holder) (now (a .out))
-      ≡ dealtInto (dealFrom policy (a .deal-number) t (now (a .random))) (a .holder) (now (a .out))
+      dealtInto (dealFrom policy (a .deal-number) (a .year) s (now (a .random))) (a .holder) (now (a .out))
+      ≡ dealtInto (dealFrom policy (a .deal-number) (a .year) t (now (a .random))) (a .holder) (now (a .out))
   leaves e =
       let a = c .before .before .before .before .before .before .args in
-      ap (λ (s : List ℕ). dealtInto (dealFrom policy (a .deal-number) s (now (a .random))) (a .holder) (now (a .out))) e
+      ap (λ (s : List ℕ). dealtInto (dealFrom policy (a .deal-number) (a .year) s (now (a .random))) (a .holder) (now (a .out))) e
 
 returns : tie.Need-returns
 returns c =

@@ -21,9 +21,22 @@ returns-3 c =
 returns-4 : tie.Need-returns-4
 unfolding sameDeal
 returns-4 c =
-    let three = c .before .before in
+    let three = c .before .before .before in
     let two = three .before .before .before in
-    rw (eq-eqb _ _ (two .before .before .before .if1 .left), eq-eqb _ _ (two .if2 .left), eq-eqb _ _ (three .if3 .left))
+    rw (eq-eqb _ _ (two .before .before .before .if1 .left), eq-eqb _ _ (two .if2 .left), eq-eqb _ _ (three .if3 .left), ne-eqb _ _ (c .if4 .taken))
+
+returns-5 : tie.Need-returns-5
+unfolding sameDeal
+returns-5 c =
+    let four = c .before .before in
+    let three = four .before .before .before in
+    let two = three .before .before .before in
+    rw (
+      eq-eqb _ _ (two .before .before .before .if1 .left),
+      eq-eqb _ _ (two .if2 .left),
+      eq-eqb _ _ (three .if3 .left),
+      eq-eqb _ _ (four .if4 .left),
+    )
 
 pub same-deal-spec : {M : Type 1} → statement M
-same-deal-spec = tie.close (tie.spec returns returns-2 returns-3 returns-4)
+same-deal-spec = tie.close (tie.spec returns returns-2 returns-3 returns-4 returns-5)

@@ -14,7 +14,7 @@ use Rattle.dealing.proofs.card.write_piece.Tie as tie
 
 -- the place at which the values are made
 abbrev values : tie.After-made → tie.After-values-of
-values c = c .before .before .before .before .before
+values c = c .before .before .before .before .before .before
 
 abbrev start : tie.After-made → tie.Start
 start c = values c .before .before .before .before
@@ -42,6 +42,7 @@ write-piece-spec =
     (λ c. search needs)
     (λ c. search needs)
     (λ c κs. search needs)
+    (λ c. search needs)
     (λ c. search needs)
     (λ c. search needs)
     (λ c. search needs)
