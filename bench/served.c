@@ -5,7 +5,7 @@
 #include <stdlib.h>
 #include "titmeadow.h"
 
-enum { NUMBERS = 4, LISTS = 4 };
+enum { NUMBERS = 6, LISTS = 4 };
 
 /* what is lent has as many bytes as are read, and no more */
 struct list {
@@ -44,6 +44,22 @@ static titmeadow_answer answer_key(uint64_t call, const uint64_t *n, const struc
     exit(1);
 }
 
+/* the calls at a desk, which is what is lent; words that are lent lie behind it */
+static titmeadow_answer answer_desk(uint64_t call, const uint64_t *n, const struct list *l, struct list out) {
+    titmeadow_desk *desk = out.at;
+    switch (call) {
+    case 12:
+        return titmeadow_desk_open(desk, n[0], n[1], n[2], n[3], n[4], n[5]);
+    case 13:
+        return titmeadow_desk_hand_in(desk, n[0], l[0].at, l[0].size);
+    case 14:
+        return titmeadow_desk_ask(desk, n[0], (uint16_t *)(desk + 1), (out.size - sizeof *desk) / 2);
+    case 15:
+        return titmeadow_desk_close(desk, n[0]);
+    }
+    return answer_key(call, n, l, out);
+}
+
 static titmeadow_answer answer(uint64_t call, const uint64_t *n, const struct list *l, struct list out) {
     switch (call) {
     case 1:
@@ -62,7 +78,7 @@ static titmeadow_answer answer(uint64_t call, const uint64_t *n, const struct li
     case 11:
         return titmeadow_add(l[0].at, l[0].size, l[1].at, l[1].size, n[0], n[1], out.at, out.size);
     }
-    return answer_key(call, n, l, out);
+    return answer_desk(call, n, l, out);
 }
 
 int main(void) {

@@ -1,7 +1,8 @@
 /* Deals to four custodians, damages a card and joins: what the unit does with a good pile, a short one, a dirty one and a torn one. Salvages the
- * dirty one, and renews the cards. Then splits a key among the four and restores it.
+ * dirty one, and renews the cards. Then splits a key among the four and restores it; and serves two clients at one desk, one with the code and one
+ * with the key.
  *   rt staticlib titmeadow && cc -I include examples/deal_damage_join.c target/staticlib/libtitmeadow.a -o target/example && target/example
- * It prints its eighteen answers and ends with status 0 where they are those that SCOPE gives. */
+ * It prints its twenty-six answers and ends with status 0 where they are those that SCOPE gives. */
 #include <stdio.h>
 #include <string.h>
 #include "titmeadow.h"
@@ -69,6 +70,30 @@ static int is(const char *what, titmeadow_answer answer, size_t number, size_t a
     return answer.number == number && answer.a == a && answer.b == b;
 }
 
+/* Two clients at one desk: the cards of holders 1 and 2, three blocks of each deal, come in by turns, and each client gets its own secret. */
+static int at_a_desk(const uint8_t key[TITMEADOW_KEY_BYTES]) {
+    static uint8_t codes[3 * TITMEADOW_BLOCK_BYTES], keys[3 * TITMEADOW_BLOCK_BYTES];
+    uint16_t words[TITMEADOW_SECRET_MOST] = {0};
+    uint8_t restored[TITMEADOW_KEY_BYTES];
+    titmeadow_desk desk = TITMEADOW_DESK_FRESH;
+    if (cards(1, 2, codes, sizeof codes) != sizeof codes || key_cards(1, 2, key, keys, sizeof keys) != sizeof keys)
+        return 0;
+    int good = is("client 1 opens", titmeadow_desk_open(&desk, 1, 7, 4, 3, 1, 2026), 0, 3, 0);
+    good &= is("client 2 wants 68 slots", titmeadow_desk_open(&desk, 2, 8, 4, 68, 10, 2026), TITMEADOW_FULL, 0, 0);
+    good &= is("client 2 opens", titmeadow_desk_open(&desk, 2, 8, 4, 3, 10, 2026), 0, 3, 0);
+    for (size_t i = 0; i < 3; i++) {
+        good &= titmeadow_desk_hand_in(&desk, 1, codes + i * TITMEADOW_BLOCK_BYTES, TITMEADOW_BLOCK_BYTES).a == i + 1;
+        good &= titmeadow_desk_hand_in(&desk, 2, keys + i * TITMEADOW_BLOCK_BYTES, TITMEADOW_BLOCK_BYTES).a == i + 1;
+    }
+    good &= is("client 1 hands in the other's", titmeadow_desk_hand_in(&desk, 1, keys, TITMEADOW_BLOCK_BYTES), TITMEADOW_MIXED, 1, 0);
+    good &= is("client 1 asks", titmeadow_desk_ask(&desk, 1, words, TITMEADOW_SECRET_MOST), 0, 1, 0) && words[0] == 1234;
+    good &= is("client 1 closes", titmeadow_desk_close(&desk, 1), 0, 3, 0);
+    good &= is("client 2 asks", titmeadow_desk_ask(&desk, 2, words, TITMEADOW_SECRET_MOST), 0, TITMEADOW_KEY_WORDS, 0);
+    good &= titmeadow_unpack(words, TITMEADOW_KEY_WORDS, restored, sizeof restored).number == 0 && memcmp(restored, key, sizeof restored) == 0;
+    good &= is("client 2 closes", titmeadow_desk_close(&desk, 2), 0, 3, 0);
+    return good;
+}
+
 int main(void) {
     static uint8_t pile[4 * TITMEADOW_BLOCK_BYTES];
     uint16_t groups[TITMEADOW_PIECES_MOST], head[TITMEADOW_HEAD_WORDS] = {0}, joined[TITMEADOW_SECRET_MOST] = {0};
@@ -122,5 +147,6 @@ int main(void) {
     length = cards(1, 2, pile, sizeof pile);
     good &= is("a code is no key", titmeadow_join_key(pile, length, restored, sizeof restored), TITMEADOW_NOTKEY, 0, 0);
     good &= memcmp(restored, key, sizeof restored) == 0;
+    good &= at_a_desk(key);
     return good ? 0 : 1;
 }

@@ -1,10 +1,11 @@
-/* Titmeadow: planning, dealing, joining and renewing cards for the vault unit. Link target/staticlib/libtitmeadow.a (rt staticlib titmeadow).
+/* Titmeadow: planning, dealing, joining and renewing cards for the vault unit, and a desk for two clients. Link
+ * target/staticlib/libtitmeadow.a (rt staticlib titmeadow).
  *
  * Whatever a call is given, it ends in its result or in a refusal, which has a number and the places a and b. A place is counted from
  * 1, and 0 where none is named. After a refusal, all that was lent is as before; a result writes only what is said here.
- * There is no heap, no state and no input that traps. A pointer is valid for as many elements as the count beside it says, and
- * what is lent to be written overlaps nothing else that is lent. Where the count is 0, the pointer may be NULL. groups, head and the
- * words of titmeadow_pack have their size in the declaration and no count: they are never NULL.
+ * There is no heap, no state but the desk that a caller has and lends, and no input that traps. A pointer is valid for as many elements as
+ * the count beside it says, and what is lent to be written overlaps nothing else that is lent. Where the count is 0, the pointer may be NULL.
+ * groups, head and the words of titmeadow_pack have their size in the declaration and no count, and a desk is one: they are never NULL.
  *
  * The archive is for x86-64. Its size, and the stack that each call takes on that target: docs/BENCHMARKS.md.
  * Symbols that it needs: memset.
@@ -28,6 +29,8 @@
 #define TITMEADOW_YEAR_WORD 24    /* the word of a block, from 1, that has the year of the deal: its bytes 47 and 48, from 1, the high one in front */
 #define TITMEADOW_CARD_MOST 35    /* blocks on a card; titmeadow_deal says why */
 #define TITMEADOW_PILE_MOST 560   /* blocks in a pile */
+#define TITMEADOW_SLOTS 70        /* slots of a desk, for the pieces of both clients */
+#define TITMEADOW_SLOT_NUMBERS (1 + TITMEADOW_SECRET_MOST) /* a mark, and the values of a piece */
 #define TITMEADOW_KEY_BYTES 16    /* a key has so many, not one more or less */
 #define TITMEADOW_KEY_WORDS 10    /* and so many words: w where a key is dealt */
 
@@ -61,19 +64,23 @@ enum titmeadow_refusal {
     TITMEADOW_SECRET = 10,   /* no words, or more than 16, or a key not of 16 bytes (a = 0); else some word exceeds 32748; a: the first such word */
     TITMEADOW_RANDOM = 11,   /* not w(k - 1) words (a = 0); else some word exceeds 32748; a: the first such word */
     TITMEADOW_ROOM = 12,     /* the lent buffer is too short; a: the blocks or words of the result, of a key its 16 bytes, and in salvaging the blocks of the pile */
-    TITMEADOW_TORN = 13,     /* bytes are left over after the whole blocks; a block that is added has not 512 bytes */
+    TITMEADOW_TORN = 13,     /* bytes are left over after the whole blocks; a block that is added or handed in has not 512 bytes */
     TITMEADOW_LONG = 14,     /* there are more than 560 blocks */
     TITMEADOW_UNREAD = 15,   /* some word of a block exceeds 32748; a: the block, b: the first such word */
     TITMEADOW_CHECK = 16,    /* word 256 of a block is not its check; a: the block */
-    TITMEADOW_HEADER = 17,   /* some word from 1 to 255 of a block is not as the layout has it; a: the block, b: the first such word */
-    TITMEADOW_MIXED = 18,    /* blocks differ in word 2, 4, 5, 6 or 24; a: the first outside the largest heap of blocks alike in these, of equal heaps the earliest */
-    TITMEADOW_CONFLICT = 19, /* a block has an earlier one's piece, and other values; a: the first such block, b: the first such earlier one */
-    TITMEADOW_SHORT = 20,    /* of the pieces 1 to k not all are there; a: how many different ones are, b: k */
+    TITMEADOW_HEADER = 17,   /* some word from 1 to 255 of a block is not as the layout has it; a: the block, b: the first such word; titmeadow_desk_open: a = 0 */
+    TITMEADOW_MIXED = 18,    /* blocks differ in word 2, 4, 5, 6 or 24; a: the first outside the largest heap of blocks alike in these, of equal heaps the earliest; at a desk 1 */
+    TITMEADOW_CONFLICT = 19, /* a block has an earlier one's piece, and other values; a: the first such block, b: the first such earlier one; at a desk 1, 0 */
+    TITMEADOW_SHORT = 20,    /* of the pieces 1 to k not all are there; a: how many different ones are, b: k, and in a pile of no blocks 0 */
     TITMEADOW_TEXT = 21,     /* the text of a policy cannot be read (the listing program only); a: the first bad line */
     TITMEADOW_LONE = 22,     /* a required set has a single member; a: the first such set */
     TITMEADOW_NOTKEY = 23,   /* there are not ten words (a = 0); else the first exceeds 2047 or another 8191; a: the first such word */
     TITMEADOW_UNLIKE = 24,   /* the two blocks of an addition differ in one of words 3 to 7; a: the first such word */
-    TITMEADOW_YEAR = 25      /* the year exceeds 32748 */
+    TITMEADOW_YEAR = 25,     /* the year exceeds 32748 */
+    TITMEADOW_NOCLIENT = 26, /* the client is neither 1 nor 2 */
+    TITMEADOW_BUSY = 27,     /* the client that would open has opened, and not closed since */
+    TITMEADOW_FULL = 28,     /* k is more than the slots that the other client leaves */
+    TITMEADOW_CLOSED = 29    /* the client has not opened, or has closed since */
 };
 
 /* Planning: the result is k, the number of pieces. A set is a number in which the bit of person i is 2^(i-1).
@@ -150,6 +157,46 @@ titmeadow_answer titmeadow_join_key(const uint8_t *pile, size_t length, uint8_t 
  * more, where deal and year are, both of them, those of one of the blocks; 12 (a = 1). */
 titmeadow_answer titmeadow_add(const uint8_t *one, size_t one_length, const uint8_t *two, size_t two_length, size_t deal, size_t year,
                                uint8_t *block, size_t room);
+
+/* A desk serves two clients, 1 and 2, from one store of 70 slots, k for each that is open. A desk begins fresh, every number 0, and only the four
+ * calls below are to write it; they change it where it stands. Each client is answered as it would be at a desk of its own: nothing that the other
+ * does is seen in its answers, but that an opening is FULL where the other has too many slots; such an opening changes nothing, and may have a
+ * result later. Where both are closed, every number is 0 again. On a desk that holds anything else the calls end and answer all the same:
+ * a client is open where its five words are such as opening takes, and a slot with one of its w values above 32748 keeps no piece.
+ * An opening has words 2, 4, 5, 6 and 24 of the blocks of a deal; in a desk, all are 0 where the client is not open. */
+typedef struct {
+    size_t deal, people, pieces, words, year;
+} titmeadow_opening;
+
+/* Piece j of client 1 is kept in slot j, of client 2 in slot 71 - j, both from 1; a slot is a mark, which is 0 where no piece is kept, and 16
+ * values. */
+typedef struct {
+    uint16_t slots[TITMEADOW_SLOTS * TITMEADOW_SLOT_NUMBERS];
+    titmeadow_opening one, two;
+} titmeadow_desk;
+
+/* titmeadow_desk desk = TITMEADOW_DESK_FRESH; */
+#ifdef __cplusplus
+#define TITMEADOW_DESK_FRESH {}
+#else
+#define TITMEADOW_DESK_FRESH {0}
+#endif
+
+/* Opening: the client gets pieces slots, and the result is their number, k. Refuses 26; 27; 17, for words that no block has which the layout
+ * allows (a = 0, b: the first such, 2, 4, 5, 6 or 24; deal 1 to 32748, people 1 to 8, pieces 1 to 70, words 1 to 16, year at most 32748); 28. */
+titmeadow_answer titmeadow_desk_open(titmeadow_desk *desk, size_t client, size_t deal, size_t people, size_t pieces, size_t words, size_t year);
+
+/* Handing in one block, of any holder, again or for the first time: its piece is kept, and the result is how many different pieces of the client
+ * are. Refuses 26; 29; 13 (not 512 bytes, fewer or more; a = 0); 15, 16, 17; 18, for a block that differs from the opening; 19, for other values
+ * of a piece that is kept; each of these five with a = 1, and of the last two b = 0. */
+titmeadow_answer titmeadow_desk_hand_in(titmeadow_desk *desk, size_t client, const uint8_t *block, size_t length);
+
+/* Asking: the pieces are joined, and stay. The result is w, and the words are written to the front of secret. room counts words.
+ * Refuses 26; 29; 20 (b is k also where there is no piece); 12. */
+titmeadow_answer titmeadow_desk_ask(const titmeadow_desk *desk, size_t client, uint16_t *secret, size_t room);
+
+/* Closing: the result is k; the client's slots are 0 then and free, and so are its words. Refuses 26; 29. */
+titmeadow_answer titmeadow_desk_close(titmeadow_desk *desk, size_t client);
 
 #ifdef __cplusplus
 }

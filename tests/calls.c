@@ -1,5 +1,5 @@
 /* Every exported call with every refusal that it can give: its number, both places, and all that was lent to be written, compared whole;
- * results and NULL for a count of 0 as well. tests/cards.c, piles.c, salvage.c, keys.c, adding.c and renewal.c have the cases; what they expect is worked out
+ * results and NULL for a count of 0 as well. tests/cards.c, piles.c, salvage.c, keys.c, adding.c, renewal.c and desk.c have the cases; what they expect is worked out
  * from docs/SCOPE.md, by hand where no rule is written here. It prints for each call the numbers that were met, 0 for a result; its status is
  * 0 only where all was as expected, and each call was seen to give all that it can. tools/firmware builds it, runs it and holds what it
  * prints to the header and to the archive. */
@@ -24,6 +24,10 @@ static const struct {
     [DEAL_KEY] = {"titmeadow_deal_key", {1, 2, 3, 4, 5, 6, 8, 9, 10, 11, 12, 22, 25}},
     [JOIN_KEY] = {"titmeadow_join_key", {12, 13, 14, 15, 16, 17, 18, 19, 20, 23}},
     [ADD] = {"titmeadow_add", {8, 12, 13, 15, 16, 17, 24, 25}},
+    [DESK_OPEN] = {"titmeadow_desk_open", {17, 26, 27, 28}},
+    [DESK_HAND_IN] = {"titmeadow_desk_hand_in", {13, 15, 16, 17, 18, 19, 26, 29}},
+    [DESK_ASK] = {"titmeadow_desk_ask", {12, 20, 26, 29}},
+    [DESK_CLOSE] = {"titmeadow_desk_close", {26, 29}},
 };
 /* Those that no input gives: eight people never have over 70 maximal groups, and the listing program alone reads texts. */
 static const size_t never[] = {TITMEADOW_WIDE, TITMEADOW_TEXT};
@@ -145,6 +149,7 @@ int main(void) {
         keys();
         adding();
         renewal();
+        desk();
     }
     return summary();
 }

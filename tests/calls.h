@@ -13,15 +13,18 @@
 enum { BLOCK = TITMEADOW_BLOCK_BYTES };
 
 /* the exported calls; tests/calls.c has the refusals that each can give */
-enum call { PLAN, DEAL, JOIN, JOIN_BY_DIFFERENCES, OPEN, SALVAGE, PACK, UNPACK, DEAL_KEY, JOIN_KEY, ADD, CALLS };
+enum call {
+    PLAN, DEAL, JOIN, JOIN_BY_DIFFERENCES, OPEN, SALVAGE, PACK, UNPACK, DEAL_KEY, JOIN_KEY, ADD, DESK_OPEN, DESK_HAND_IN, DESK_ASK, DESK_CLOSE, CALLS
+};
 
-/* The cases: planning and dealing; joining and opening; salvaging; keys; adding; cards that are renewed. */
+/* The cases: planning and dealing; joining and opening; salvaging; keys; adding; cards that are renewed; a desk. */
 void cards(void);
 void piles(void);
 void salvage(void);
 void keys(void);
 void adding(void);
 void renewal(void);
+void desk(void);
 
 /* Paints the field anew, and lends from its middle. */
 uint16_t *lend(void);

@@ -12,6 +12,7 @@ static uint8_t key_pile[560 * 512], key[16];
 static size_t key_piled;
 static uint16_t required[256], groups[70], secret[16], words[16], randomness[16 * 69], head[7];
 static uint16_t list[2 * 560];
+static titmeadow_desk desk, few_desk, other_desk; /* client 1 has all pieces of `pile`; of `few`; nobody has any */
 static size_t sets, piled, fewer;
 static volatile size_t sink;
 /* a policy, and how many pieces it has */
@@ -31,6 +32,18 @@ static void salvage(void) {
     sink = titmeadow_salvage(pile, piled, list, 2 * 560).a;
 }
 static void add(void) { sink = titmeadow_add(pile, 512, pile, 512, 9, 2026, card, sizeof card).a; }
+static void desk_open(void) {
+    other_desk.two.pieces = 0; /* not open, whatever was */
+    sink = titmeadow_desk_open(&other_desk, 2, 9, 8, 70, 16, 2026).a;
+}
+static void desk_hand_in(void) { sink = titmeadow_desk_hand_in(&desk, 1, pile, 512).a; }
+static void desk_ask(void) { sink = titmeadow_desk_ask(&desk, 1, words, 16).a; }
+static void desk_close(void) {
+    other_desk.two.deal = other_desk.two.people = other_desk.two.words = 1, other_desk.two.pieces = 70;
+    sink = titmeadow_desk_close(&other_desk, 2).a;
+}
+static void few_hand_in(void) { sink = titmeadow_desk_hand_in(&few_desk, 1, few, 512).number; }
+static void few_ask(void) { sink = titmeadow_desk_ask(&few_desk, 1, words, 16).number; }
 static void pack(void) { sink = titmeadow_pack(key, 16, words).a; }
 static void unpack(void) { sink = titmeadow_unpack(secret, 10, key, 16).a; }
 static void deal_key(void) { sink = titmeadow_deal_key(8, required, sets, required, 0, 7, 2026, 3, key, 16, randomness, 10 * 69, card, sizeof card).a; }
@@ -67,7 +80,7 @@ static void put(uint8_t *block, size_t i, size_t value) {
     block[2 * i - 1] = (uint8_t)value;
 }
 
-/* one block of each of k pieces, of sixteen values that are j: whatever they are, they join */
+/* one block of each of k pieces, of sixteen values that are j: whatever they are, they join; and client 1 has them */
 static void lay(size_t k) {
     for (size_t j = 1; j <= k; j++) {
         const size_t front[] = {1987, 7, 1, 8, k, 16, j};
@@ -82,9 +95,13 @@ static void lay(size_t k) {
         put(block, 256, sum % 32749);
     }
     fewer = 512 * k;
+    titmeadow_desk_close(&few_desk, 1);
+    titmeadow_desk_open(&few_desk, 1, 7, 8, k, 16, 0);
+    for (size_t j = 0; j < k; j++)
+        titmeadow_desk_hand_in(&few_desk, 1, few + 512 * j, 512);
 }
 
-/* the least and the most that a joiner takes, over all numbers of pieces */
+/* the least and the most that a call takes, over all numbers of pieces */
 static void over_k(const char *name, void (*f)(void), size_t base) {
     size_t least = SIZE_MAX, most = 0;
     for (size_t k = 1; k <= 70; k++) {
@@ -159,7 +176,13 @@ int main(void) {
     struct { const char *name; void (*f)(void); } calls[] = {
         {"titmeadow_plan", plan}, {"titmeadow_deal", deal}, {"titmeadow_join", join}, {"titmeadow_join_by_differences", join_by_differences},
         {"titmeadow_open", open}, {"titmeadow_salvage", salvage}, {"titmeadow_pack", pack}, {"titmeadow_unpack", unpack},
-        {"titmeadow_deal_key", deal_key}, {"titmeadow_join_key", join_key}, {"titmeadow_add", add}};
+        {"titmeadow_deal_key", deal_key}, {"titmeadow_join_key", join_key}, {"titmeadow_add", add},
+        {"titmeadow_desk_open", desk_open}, {"titmeadow_desk_hand_in", desk_hand_in}, {"titmeadow_desk_ask", desk_ask}, {"titmeadow_desk_close", desk_close}};
+    titmeadow_desk_open(&desk, 1, 7, 8, 70, 16, 2026);
+    for (size_t at = 0; at < piled; at += 512)
+        titmeadow_desk_hand_in(&desk, 1, pile + at, 512);
+    if (titmeadow_desk_ask(&desk, 1, words, 16).a != 16)
+        printf("the desk has not all pieces\n");
     size_t base = used(nothing);
     for (size_t i = 0; i < sizeof calls / sizeof *calls; i++) {
         size_t bytes = used(calls[i].f) - base;
@@ -167,6 +190,8 @@ int main(void) {
     }
     over_k("titmeadow_join", join_few, base);
     over_k("titmeadow_join_by_differences", join_few_by_differences, base);
+    over_k("titmeadow_desk_hand_in", few_hand_in, base);
+    over_k("titmeadow_desk_ask", few_ask, base);
     over_lists(base);
     return 0;
 }

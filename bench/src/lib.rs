@@ -2,6 +2,7 @@
 //! tests and benchmarks share.
 
 pub mod cards;
+pub mod desks;
 pub mod inputs;
 pub mod met;
 pub mod mixed;

@@ -76,7 +76,7 @@ fn unlike(n: &mut Numbers, block: &[u8], i: usize) -> Option<Vec<u8>> {
 }
 
 /// One thing wrong with a block: its length, a dirty word, a word with a wrong check, a word that the layout has not.
-fn damage(n: &mut Numbers, block: &mut Vec<u8>) {
+pub fn damage(n: &mut Numbers, block: &mut Vec<u8>) {
     let length = [0, 1, 256, 511, 513, 1023, 1024, 1536][n.below(8)];
     match (n.below(5), block.len() == BLOCK) {
         (0 | 1, _) | (_, false) => block.resize(length, n.next() as u8),

@@ -2,16 +2,20 @@
 //! Where the proved code and this disagree, SCOPE decides.
 
 mod adding;
+mod desk;
 mod heaps;
 mod joined;
 mod keys;
+mod own;
 mod programs;
 mod salvage;
 
 pub use adding::add;
+pub use desk::{Desk, OPENING};
 pub use heaps::{heaps, outside, Label};
 pub use joined::{by_differences, join, join_by_differences, weights};
 pub use keys::{deal_key, join_key, pack, unpack};
+pub use own::Own;
 pub use programs::{joining, listing, read_policy, salvaging};
 pub use salvage::{salvage, value_for};
 

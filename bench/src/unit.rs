@@ -7,7 +7,7 @@ mod calls;
 #[path = "unit/served.rs"]
 mod calls;
 
-use crate::reference::{Deal, Refusal};
+use crate::reference::{Deal, Desk, Refusal};
 
 /// What a call answers, as include/titmeadow.h has it.
 #[repr(C)]
@@ -79,4 +79,25 @@ pub fn deal_key(d: &Deal, key: &[u8], holder: usize, out: &mut [u8]) -> Result<u
 /// The key of a pile into the front of `out`; the number of its bytes.
 pub fn join_key(pile: &[u8], out: &mut [u8]) -> Result<usize, Refusal> {
     calls::join_key(pile, out).result()
+}
+
+/// A client opens with words 2, 4, 5, 6 and 24 of a deal's blocks; k.
+pub fn desk_open(desk: &mut Desk, client: usize, words: [usize; 5]) -> Result<usize, Refusal> {
+    calls::desk_open(desk, client, words).result()
+}
+
+/// A client hands in one block; its distinct pieces so far.
+pub fn desk_hand_in(desk: &mut Desk, client: usize, block: &[u8]) -> Result<usize, Refusal> {
+    calls::desk_hand_in(desk, client, block).result()
+}
+
+/// The secret of a client's pieces into the front of `out`; the number of its words. What became of the desk, which is lent to be read, is there to
+/// be seen.
+pub fn desk_ask(desk: &mut Desk, client: usize, out: &mut [u16]) -> Result<usize, Refusal> {
+    calls::desk_ask(desk, client, out).result()
+}
+
+/// A client closes; k.
+pub fn desk_close(desk: &mut Desk, client: usize) -> Result<usize, Refusal> {
+    calls::desk_close(desk, client).result()
 }

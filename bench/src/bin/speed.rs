@@ -1,7 +1,7 @@
 //! Benchmarks: the proved library against the independent Rust, in one run, both built for release; then its two joiners against each other.
 //! Median of many rounds; the two take turns within a round. Buffers are not cleared between calls.
 use bench::inputs;
-use bench::reference::{self, block_words, bytes_of, Deal, Refusal, BLOCK};
+use bench::reference::{self, block_words, bytes_of, words_of, Deal, Desk, Refusal, BLOCK};
 use bench::unit;
 use std::hint::black_box;
 use std::time::Instant;
@@ -189,6 +189,54 @@ fn add(blocks: &[Vec<u8>]) {
     }
 }
 
+/// The calls at a desk, of a client that has all pieces of a deal: handing one of them in once more, which looks at every slot of the client as the
+/// last new one does; asking; closing, and opening again.
+fn desk(blocks: &[Vec<u8>]) {
+    let words = words_of(&blocks[0]);
+    let (k, w) = (words[4] as usize, words[5] as usize);
+    let opening = [2, 4, 5, 6, 24].map(|i| words[i - 1] as usize);
+    let (mut ours, mut theirs) = (Desk::fresh(), Desk::fresh());
+    for client in [1, 2] {
+        assert_eq!(unit::desk_open(&mut ours, client, opening).and(theirs.open(client, opening)), Ok(k));
+        for (at, block) in blocks.iter().enumerate() {
+            assert_eq!(unit::desk_hand_in(&mut ours, client, block).and(theirs.hand_in(client, block)), Ok(at + 1));
+        }
+        compare(
+            &format!("handing in one of {k} pieces to client {client}"),
+            || {
+                black_box(unit::desk_hand_in(black_box(&mut ours), client, &blocks[k / 2])).ok();
+            },
+            || {
+                black_box(theirs.hand_in(black_box(client), &blocks[k / 2])).ok();
+            },
+        );
+        let (mut words, mut their_words) = ([0; 16], [0; 16]);
+        compare(
+            &format!("asking for {w} words of {k} pieces, client {client}"),
+            || {
+                black_box(unit::desk_ask(black_box(&mut ours), client, &mut words)).ok();
+            },
+            || {
+                black_box(theirs.ask(black_box(client), &mut their_words)).ok();
+            },
+        );
+        assert!(words == their_words && ours == theirs);
+        compare(
+            &format!("closing and opening, {k} slots, client {client}"),
+            || {
+                black_box(unit::desk_close(black_box(&mut ours), client)).ok();
+                black_box(unit::desk_open(black_box(&mut ours), client, opening)).ok();
+            },
+            || {
+                black_box(theirs.close(black_box(client))).ok();
+                black_box(theirs.open(black_box(client), opening)).ok();
+            },
+        );
+        assert_eq!(unit::desk_close(&mut ours, client).and(theirs.close(client)), Ok(k));
+        assert!(ours == Desk::fresh() && theirs == Desk::fresh());
+    }
+}
+
 /// Mixed piles as large as can be, all blocks true, up to MIXED: 560 deals of a block each, and two heaps of 280 whose blocks take turns.
 fn mixed() {
     let values = secret();
@@ -265,6 +313,8 @@ fn main() {
     // two pieces that one holder has
     let held: Vec<Vec<u8>> = inputs::blocks(&d, 1);
     add(&held);
+    desk(&all);
+    desk(&pieces(&threshold(3, 2)));
     for blocks in [70, 140, 280] {
         join(&format!("joining {blocks} blocks of 70 pieces"), &many[..blocks * BLOCK]);
     }

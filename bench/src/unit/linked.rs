@@ -1,6 +1,6 @@
 //! The calls, linked. Nothing checks these declarations against the library: they are the ones of include/titmeadow.h.
 use super::Answer;
-use crate::reference::Deal;
+use crate::reference::{Deal, Desk};
 
 extern "C" {
     fn titmeadow_plan(
@@ -60,6 +60,18 @@ extern "C" {
         room: usize,
     ) -> Answer;
     fn titmeadow_join_key(pile: *const u8, length: usize, key: *mut u8, room: usize) -> Answer;
+    fn titmeadow_desk_open(
+        desk: *mut Desk,
+        client: usize,
+        deal: usize,
+        people: usize,
+        pieces: usize,
+        words: usize,
+        year: usize,
+    ) -> Answer;
+    fn titmeadow_desk_hand_in(desk: *mut Desk, client: usize, block: *const u8, length: usize) -> Answer;
+    fn titmeadow_desk_ask(desk: *const Desk, client: usize, secret: *mut u16, room: usize) -> Answer;
+    fn titmeadow_desk_close(desk: *mut Desk, client: usize) -> Answer;
 }
 
 pub fn plan(people: usize, required: &[u16], forbidden: &[u16], groups: &mut [u16; 70]) -> Answer {
@@ -138,4 +150,20 @@ pub fn deal_key(d: &Deal, key: &[u8], holder: usize, out: &mut [u8]) -> Answer {
 
 pub fn join_key(pile: &[u8], out: &mut [u8]) -> Answer {
     unsafe { titmeadow_join_key(pile.as_ptr(), pile.len(), out.as_mut_ptr(), out.len()) }
+}
+
+pub fn desk_open(desk: &mut Desk, client: usize, [deal, people, pieces, words, year]: [usize; 5]) -> Answer {
+    unsafe { titmeadow_desk_open(desk, client, deal, people, pieces, words, year) }
+}
+
+pub fn desk_hand_in(desk: &mut Desk, client: usize, block: &[u8]) -> Answer {
+    unsafe { titmeadow_desk_hand_in(desk, client, block.as_ptr(), block.len()) }
+}
+
+pub fn desk_ask(desk: &mut Desk, client: usize, out: &mut [u16]) -> Answer {
+    unsafe { titmeadow_desk_ask(desk, client, out.as_mut_ptr(), out.len()) }
+}
+
+pub fn desk_close(desk: &mut Desk, client: usize) -> Answer {
+    unsafe { titmeadow_desk_close(desk, client) }
 }

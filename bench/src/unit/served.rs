@@ -1,9 +1,12 @@
 //! The calls, asked through a pipe: bench/served.c says how. build.rs compiles it; each thread has a process of its own.
 use super::Answer;
-use crate::reference::Deal;
+use crate::reference::{Deal, Desk};
 use std::cell::RefCell;
 use std::io::{BufWriter, Read, Write};
 use std::process::{Child, ChildStdin, ChildStdout, Command, Stdio};
+
+/// How many numbers a question has.
+const NUMBERS: usize = 6;
 
 struct Served {
     child: Child,
@@ -24,11 +27,11 @@ impl Served {
         Served { child, asks, says }
     }
 
-    fn ask(&mut self, call: u64, numbers: [usize; 4], lists: [&[u8]; 4], out: &mut [u8]) -> Answer {
+    fn ask(&mut self, call: u64, numbers: &[usize], lists: [&[u8]; 4], out: &mut [u8]) -> Answer {
         let asks = self.asks.as_mut().unwrap();
         let mut number = |n: u64| asks.write_all(&n.to_le_bytes()).unwrap();
         number(call);
-        numbers.iter().for_each(|n| number(*n as u64));
+        (0..NUMBERS).for_each(|i| number(numbers.get(i).map_or(0, |n| *n as u64)));
         for list in lists.into_iter().chain([&out[..]]) {
             asks.write_all(&(list.len() as u64).to_le_bytes()).unwrap();
             asks.write_all(list).unwrap();
@@ -53,8 +56,8 @@ thread_local! {
     static SERVED: RefCell<Served> = RefCell::new(Served::start());
 }
 
-fn ask(call: u64, numbers: [usize; 4], lists: [&[u8]; 4], out: &mut [u8]) -> Answer {
-    SERVED.with(|served| served.borrow_mut().ask(call, numbers, lists, out))
+fn ask<const N: usize>(call: u64, numbers: [usize; N], lists: [&[u8]; 4], out: &mut [u8]) -> Answer {
+    SERVED.with(|served| served.borrow_mut().ask(call, &numbers, lists, out))
 }
 
 fn bytes(words: &[u16]) -> Vec<u8> {
@@ -122,4 +125,42 @@ pub fn deal_key(d: &Deal, key: &[u8], holder: usize, out: &mut [u8]) -> Answer {
 
 pub fn join_key(pile: &[u8], out: &mut [u8]) -> Answer {
     ask(9, [0; 4], [pile, &[], &[], &[]], out)
+}
+
+/// The bytes of a desk in C, little-endian: the slots, four bytes that nothing has, the words.
+const DESK: usize = 2464;
+
+/// The desk goes as it is lent, with other words that are lent behind it.
+fn ask_desk<const N: usize>(call: u64, numbers: [usize; N], block: &[u8], desk: &mut Desk, out: &mut [u16]) -> Answer {
+    let mut lent = bytes(desk.slots.as_flattened());
+    lent.extend_from_slice(&[0; 4]);
+    lent.extend(desk.words.as_flattened().iter().flat_map(|word| (*word as u64).to_le_bytes()));
+    assert_eq!(lent.len(), DESK);
+    lent.extend(bytes(out));
+    let said = ask(call, numbers, [block, &[], &[], &[]], &mut lent);
+    let (state, words) = lent.split_at(DESK);
+    let numbers = desk.slots.as_flattened_mut().iter_mut().zip(state.chunks_exact(2));
+    for (number, pair) in numbers.chain(out.iter_mut().zip(words.chunks_exact(2))) {
+        *number = u16::from_le_bytes([pair[0], pair[1]]);
+    }
+    for (word, eight) in desk.words.as_flattened_mut().iter_mut().zip(state[DESK - 80..].chunks_exact(8)) {
+        *word = u64::from_le_bytes(eight.try_into().unwrap()) as usize;
+    }
+    said
+}
+
+pub fn desk_open(desk: &mut Desk, client: usize, [deal, people, pieces, words, year]: [usize; 5]) -> Answer {
+    ask_desk(12, [client, deal, people, pieces, words, year], &[], desk, &mut [])
+}
+
+pub fn desk_hand_in(desk: &mut Desk, client: usize, block: &[u8]) -> Answer {
+    ask_desk(13, [client], block, desk, &mut [])
+}
+
+pub fn desk_ask(desk: &mut Desk, client: usize, out: &mut [u16]) -> Answer {
+    ask_desk(14, [client], &[], desk, out)
+}
+
+pub fn desk_close(desk: &mut Desk, client: usize) -> Answer {
+    ask_desk(15, [client], &[], desk, &mut [])
 }

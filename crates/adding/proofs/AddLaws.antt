@@ -7,7 +7,6 @@ use mathlib.Core.Logic.{_≢_}
 use mathlib.Core.List.{List}
 use native.Mathlib.Omega.{arith}
 use lib.Dec.{eqb}
-use lib.ListN.{length}
 use borrow.Author.Tests.{eqb-true, eq-eqb, not-false, ltb-false, le-ltb}
 use Rattle.lists.specs.Places.{found}
 use Rattle.lists.proofs.Truth.{both, neither, isn't}
@@ -15,26 +14,15 @@ use Rattle.lists.proofs.RangeLaws.{in-range, range-in}
 use Rattle.lists.proofs.FirstLaws.{none-in, none-found, found-none, first-all}
 use Rattle.answer.specs.Outcome.{done}
 use Rattle.answer.specs.Lent.{noRoom}
-use Rattle.answer.specs.Laws.{Passed}
 use Rattle.answer.proofs.CheckLaws.{passed, passed-none, passed-one, passed-append, passed-both, done-passed, passed-done}
 use Rattle.block.specs.Words.{wordAt}
 use Rattle.block.specs.Deals.{badNumber, badYear}
-use Rattle.block.specs.Open.{TrueBlock}
-use Rattle.block.proofs.Laws.{true-means}
+use Rattle.block.specs.Open.{oneLines}
+use Rattle.block.proofs.OpenLaws.{one-true, true-one}
 use Rattle.adding.specs.declared.Pair.{Pair}
 use Rattle.adding.specs.Sum.{differ, unlikeAt, pairIn}
-use Rattle.adding.specs.Adding.{oneLines, samePair, addLines, adding}
+use Rattle.adding.specs.Adding.{samePair, addLines, adding}
 use Rattle.adding.specs.Laws.{Addable}
-
--- ---- 13, 15, 16 and 17 of one block
-pub lines-true : (b : List ℕ) (a : ℕ) → Passed (oneLines b a) → (length b ≡ 512) × TrueBlock b
-lines-true b a p =
-    let h = passed p in
-    let whole : length b ≡ 512 = eqb-true (length b) 512 (not-false _ (h .0)) in
-    (whole, true-means b a .1 (omega arith) (h .1))
-
-true-lines : (b : List ℕ) (a : ℕ) → length b ≡ 512 → TrueBlock b → Passed (oneLines b a)
-true-lines b a e t = passed-one (rw (eq-eqb (length b) 512 e)) (true-means b a .0 t)
 
 -- ---- 24
 not-unlike : (one two : List ℕ) → found (unlikeAt one two) ≡ false → (i : ℕ) → 3 ≤ i → i ≤ 7 → wordAt one i ≡ wordAt two i
@@ -72,8 +60,8 @@ module _ (one two : List ℕ) (new : Pair) (room : ℕ) where
       let d = done-passed (addLines one two new room) (done 1) n e in
       let a = passed-append (oneLines one 1) (d .0) in
       let b = passed-append (oneLines two 2) (a .1) in
-      let first = lines-true one 1 (a .0) in
-      let second = lines-true two 2 (b .0) in
+      let first = one-true one 1 (a .0) in
+      let second = one-true two 2 (b .0) in
       let p = passed (b .1) in
       let q = passed (p .1) in
       let r = passed (q .1) in
@@ -101,8 +89,8 @@ module _ (one two : List ℕ) (new : Pair) (room : ℕ) where
   unfolding adding addLines badNumber badYear noRoom
   of-addable y =
       passed-done (addLines one two new room) (done 1)
-      (passed-both (oneLines one 1) (true-lines one 1 (y .whole-one) (y .true-one))
-      (passed-both (oneLines two 2) (true-lines two 2 (y .whole-two) (y .true-two))
+      (passed-both (oneLines one 1) (true-one one 1 (y .whole-one) (y .true-one))
+      (passed-both (oneLines two 2) (true-one two 2 (y .whole-two) (y .true-two))
       (passed-one (not-found one two (y .alike))
       (passed-one (range-in 32748 (new .number) (y .number-in .0) (y .number-in .1))
       (passed-one (le-ltb 32748 (new .year) (y .year-in))

@@ -10,10 +10,12 @@ use Rattle.answer.specs.Lent.{noRoom}
 use Rattle.answer.proofs.CheckLaws.{passed-append}
 use Rattle.answer.proofs.WhichLaws.{only-one, first-found}
 use Rattle.block.specs.Deals.{badNumber, badYear}
+use Rattle.block.specs.Open.{oneLines}
+use Rattle.block.proofs.OpenLaws.{one-true}
 use Rattle.adding.specs.Sum.{differ, unlikeAt, sumOf}
-use Rattle.adding.specs.Adding.{oneLines, unlike, repeated, addLines, adding}
+use Rattle.adding.specs.Adding.{unlike, repeated, addLines, adding}
 use Rattle.adding.specs.Laws as law
-use Rattle.adding.proofs.AddLaws.{lines-true, addable, of-addable}
+use Rattle.adding.proofs.AddLaws.{addable, of-addable}
 use Rattle.adding.proofs.SumLaws as sum
 
 pub add-exactly : law.AddExactly
@@ -34,7 +36,7 @@ unlike-places one two new room a b e =
     let r =
     only-one 24 (oneLines one 1 ++ oneLines two 2) (unlike one two) (badNumber (new .number) ∷ badYear (new .year) ∷ repeated one two new ∷ noRoom 512 1 room ∷ []) 1 a b e refl refl in
     let p = passed-append (oneLines one 1) (r .0) in
-    (lines-true one 1 (p .0) .1, lines-true two 2 (p .1) .1, first-found (differ one two) 3 8 (r .1 .given) (r .1 .a-is), sym (r .1 .b-is))
+    (one-true one 1 (p .0) .1, one-true two 2 (p .1) .1, first-found (differ one two) 3 8 (r .1 .given) (r .1 .a-is), sym (r .1 .b-is))
 
 pub result-writes : law.ResultWrites
 unfolding over

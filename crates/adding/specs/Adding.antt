@@ -1,28 +1,20 @@
 -- What adding two blocks answers, and what it leaves in the lent output: 13 and 15 to 17 of block one, then of block two, 24, 8, 25, 8, 12.
 -- Assumes nothing.
 use Prim.Native.Nat.{ℕ}
-use mathlib.Core.Bool.{Bool, not, _&&_, _||_}
+use mathlib.Core.Bool.{Bool, _&&_, _||_}
 use mathlib.Core.List.{List, [], _∷_, _++_}
 use lib.Dec.{eqb}
 use lib.ListN.{length}
 use Rattle.lists.specs.Places.{found}
-use Rattle.answer.specs.declared.Kind.the-variants.{Torn, Unlike, Deal as DealKind}
+use Rattle.answer.specs.declared.Kind.the-variants.{Unlike, Deal as DealKind}
 use Rattle.answer.specs.Outcome.{Outcome, done}
 use Rattle.answer.specs.Checks.{Line, line, firstFail}
 use Rattle.answer.specs.Lent.{noRoom, left}
 use Rattle.block.specs.Words.{wordAt}
 use Rattle.block.specs.Deals.{badNumber, badYear}
-use Rattle.block.specs.Open.{blockLines}
+use Rattle.block.specs.Open.{oneLines}
 use Rattle.adding.specs.declared.Pair.{Pair}
 use Rattle.adding.specs.Sum.{unlikeAt, sumOf}
-
--- 13 TORN, of a block that is lent alone: not 512 bytes, be they fewer or more
-abbrev pub tornBlock : List ℕ → Line
-tornBlock b = line Torn (not (eqb (length b) 512)) 0 0
-
--- 13, 15, 16 and 17 of block a of the two
-abbrev pub oneLines : List ℕ → ℕ → List Line
-oneLines b a = tornBlock b ∷ blockLines b a
 
 -- 24 UNLIKE: the blocks differ in one of words 3 to 7; a is the first such word
 abbrev pub unlike : List ℕ → List ℕ → Line

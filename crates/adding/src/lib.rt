@@ -15,23 +15,13 @@ ghost use Rattle.block.specs.Layout.{valuesOf, widthOf};
 ghost use Rattle.block.specs.Deals.{badNumber, badYear};
 ghost use Rattle.block.specs.Open.{TrueBlock};
 ghost use Rattle.adding.specs.Sum.{unlikeAt, sumOf};
-ghost use Rattle.adding.specs.Adding.{oneLines, unlike, samePair, repeated, adding, sumInto};
+ghost use Rattle.adding.specs.Adding.{unlike, samePair, repeated, adding, sumInto};
 ghost use Rattle.adding.specs.Laws.{Addable};
 
 // A deal number and a year, as they are lent.
 pub struct Pair {
     pub number: usize,
     pub year: usize,
-}
-
-// 13, 15, 16 and 17 of block a of the two.
-fn check_one(b: &[u8], a: usize) -> Answer
-    ensures { λ r. ⌜ outcome r ≡ firstFail (oneLines (now (b .entry)) a) (done 0) ⌝ }
-{
-    if b.len() != 512 {
-        return answer::refuse(Kind::Torn, 0, 0);
-    }
-    block::check_block(b, a)
 }
 
 // The first of words 3 to 7 in which the blocks differ, or 0.
@@ -95,10 +85,10 @@ fn check_both(one: &[u8], two: &[u8], new: Pair) -> Answer
 fn check_add(one: &[u8], two: &[u8], new: Pair, room: usize) -> Answer
     ensures { λ r. ⌜ outcome r ≡ adding (now (one .entry)) (now (two .entry)) new room ⌝ }
 {
-    if let Answer::Refused(r) = check_one(one, 1) {
+    if let Answer::Refused(r) = block::check_one(one, 1) {
         return Answer::Refused(r);
     }
-    if let Answer::Refused(r) = check_one(two, 2) {
+    if let Answer::Refused(r) = block::check_one(two, 2) {
         return Answer::Refused(r);
     }
     if let Answer::Refused(r) = check_both(one, two, new) {

@@ -3,7 +3,8 @@
 use Prim.Native.Nat.{ℕ}
 use Rattle.answer.specs.declared.Kind.{Kind}
 use Rattle.answer.specs.declared.Kind.the-variants.{People, LongList, Stranger, Nobody, Open, Clash, Wide, Deal, Holder, Secret, Random}
-use Rattle.answer.specs.declared.Kind.the-variants.{Room, Torn, Long, Unread, Check, Header, Mixed, Conflict, Short, Text, Lone, NotKey, Unlike, Year}
+use Rattle.answer.specs.declared.Kind.the-variants.{Room, Torn, Long, Unread, Check, Header, Mixed, Conflict, Short, Text, Lone, NotKey, Unlike}
+use Rattle.answer.specs.declared.Kind.the-variants.{Year, NoClient, Busy, Full, Closed}
 use Rattle.answer.specs.declared.Answer.{Answer}
 use Rattle.answer.specs.declared.Answer.the-variants.{Done, Refused}
 
@@ -34,6 +35,10 @@ number Lone = 22
 number NotKey = 23
 number Unlike = 24
 number Year = 25
+number NoClient = 26
+number Busy = 27
+number Full = 28
+number Closed = 29
 
 -- SCOPE 6.1: a call ends with a result, or with a refusal, which has a number and the places a and b. What a result is, each call says: A.
 pub data Outcome (A : Type 0) : Type 0 where

@@ -30,6 +30,10 @@ pub enum Kind {
     NotKey,
     Unlike,
     Year,
+    NoClient,
+    Busy,
+    Full,
+    Closed,
 }
 
 // A refusal: its kind and its two places, each 0 where SCOPE 6.2 names none.
@@ -75,6 +79,10 @@ pub fn number_of(k: Kind) -> usize
         Kind::NotKey => 23,
         Kind::Unlike => 24,
         Kind::Year => 25,
+        Kind::NoClient => 26,
+        Kind::Busy => 27,
+        Kind::Full => 28,
+        Kind::Closed => 29,
     }
 }
 

@@ -24,7 +24,7 @@ use Rattle.block.specs.declared.Words.{Words}
 use Rattle.block.specs.declared.Opened.the-variants.{Head, Refused}
 use Rattle.block.specs.Words.{wordAt, checkOf, Small}
 use Rattle.block.specs.Layout.{frontWords, rightAt, firstWrong}
-use Rattle.block.specs.Open.{above, firstAbove, torn, unread, check, header, slotLines, blockLines, opening, wordsOf, opened, TrueBlock}
+use Rattle.block.specs.Open.{above, firstAbove, torn, unread, check, header, slotLines, blockLines, oneLines, opening, wordsOf, opened, TrueBlock}
 use Rattle.block.specs.Laws.{Refusable, by-torn, by-unread, by-check, by-header}
 use Rattle.block.proofs.LayoutLaws.{layout-of, of-layout}
 
@@ -83,6 +83,16 @@ passes-true b a l p =
       sum = eqb-true (checkOf b) (wordAt b 256) (not-false (eqb (checkOf b) (wordAt b 256)) (c .0));
       layout = layout-of b (none-found (firstWrong b) (h .0));
     }
+
+-- ---- a block that is lent alone passes exactly where it is a true block of 512 bytes
+pub one-true : (b : List ℕ) (a : ℕ) → Passed (oneLines b a) → (length b ≡ 512) × TrueBlock b
+one-true b a p =
+    let h = passed p in
+    let whole : length b ≡ 512 = eqb-true (length b) 512 (not-false _ (h .0)) in
+    (whole, passes-true b a (omega arith) (h .1))
+
+pub true-one : (b : List ℕ) (a : ℕ) → length b ≡ 512 → TrueBlock b → Passed (oneLines b a)
+true-one b a e t = passed-one (rw (eq-eqb (length b) 512 e)) (true-passes b a t)
 
 -- ---- opening
 pub opening-torn : (pile : List ℕ) → length pile < 512 → opening pile ≡ refused 13 0 0

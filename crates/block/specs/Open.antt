@@ -49,6 +49,14 @@ slotLines b a = unread b a ∷ check b a ∷ []
 abbrev pub blockLines : List ℕ → ℕ → List Line
 blockLines b a = slotLines b a ++ header b a ∷ []
 
+-- 13 TORN, of a block that is lent alone: not 512 bytes, be they fewer or more
+abbrev pub tornBlock : List ℕ → Line
+tornBlock b = line Torn (not (eqb (length b) 512)) 0 0
+
+-- 13, 15, 16 and 17 of such a block, which the call counts as block a
+abbrev pub oneLines : List ℕ → ℕ → List Line
+oneLines b a = tornBlock b ∷ blockLines b a
+
 -- opening the first block of a pile
 unfoldable pub opening : List ℕ → Outcome (List ℕ)
 opening pile = firstFail (torn pile ∷ blockLines pile 1) (done (frontWords pile))

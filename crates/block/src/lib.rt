@@ -9,6 +9,7 @@ pub use deal::DealWords;
 pub use deal::deal_words;
 pub use deal::same_deal;
 pub use reading::check_block;
+pub use reading::check_one;
 pub use reading::check_slots;
 pub use reading::first_wrong;
 pub use reading::open;

@@ -14,7 +14,7 @@ ghost use Rattle.answer.specs.Checks.{firstFail};
 ghost use Rattle.lists.specs.Places.{firstIn};
 ghost use Rattle.block.specs.Layout.{frontWords, within, rightAt, firstWrong};
 ghost use Rattle.block.specs.Inner.{filled};
-ghost use Rattle.block.specs.Open.{firstAbove, slotLines, blockLines, opening, valueBytes, valueStart, wordsOf, opened};
+ghost use Rattle.block.specs.Open.{firstAbove, slotLines, blockLines, oneLines, opening, valueBytes, valueStart, wordsOf, opened};
 ghost use Rattle.block.specs.Inner.{cleanCheck};
 
 // What one pass over a block finds: the first word above 32748, or 0, and the check of words 1 to 255 where there is none.
@@ -179,6 +179,16 @@ pub fn check_block(rest: &[u8], a: usize) -> Answer
         return answer::refuse(Kind::Header, a, wrong);
     }
     Answer::Done(0)
+}
+
+// A block that is lent alone, block a of a call, for TORN, UNREAD, CHECK and HEADER.
+pub fn check_one(b: &[u8], a: usize) -> Answer
+    ensures { λ r. ⌜ outcome r ≡ firstFail (oneLines (now (b .entry)) a) (done 0) ⌝ }
+{
+    if b.len() != 512 {
+        return answer::refuse(Kind::Torn, 0, 0);
+    }
+    check_block(b, a)
 }
 
 // Words 1 to 7 of b.

@@ -30,7 +30,7 @@ use Rattle.demands.specs.Demand3.{shortOf}
 use Rattle.demands.proofs.GroupLaws.{all-held, not-gathered, gathers-by, gathers-who}
 use Rattle.demands.proofs.ReadLaws.{Reads, sound, pieces-are, width-is, value-is, no-place, present-are}
 
-short-says : (c k : ℕ) → 1 ≤ c → refused 20 c k ≡ shortOf c k
+pub short-says : (c k : ℕ) → 1 ≤ c → refused 20 c k ≡ shortOf c k
 short-says zero k h = absurd (omega arith)
 short-says (suc c) k h = refl
 
@@ -85,7 +85,7 @@ module _ (d : Deal) (f : InRange d) (g : ℕ) (group : Group d g) (pile : List �
         (sym (run-is (λ i. joined (column (valueAt pile) (Pile.ownPieces pile) i)) (length (d .secret)) (d .secret) refl word-joined))
 
   -- ---- no block: the group holds no piece
-  none-held : blocks pile ≡ 0 → length (gathered d g) ≡ 0
+  pub none-held : blocks pile ≡ 0 → length (gathered d g) ≡ 0
   unfolding gathered
   none-held z =
       ⊎-elim (λ (e : 0 ≡ length (gathered d g)). sym e)
@@ -97,7 +97,7 @@ module _ (d : Deal) (f : InRange d) (g : ℕ) (group : Group d g) (pile : List �
       (eq-or-lt-of-le zero-le)
 
   -- a block: the group holds its piece
-  some-held : 1 ≤ blocks pile → 1 ≤ length (gathered d g)
+  pub some-held : 1 ≤ blocks pile → 1 ≤ length (gathered d g)
   unfolding gathered
   some-held some =
       let t = r .theirs 1 (le-refl 1, some) in

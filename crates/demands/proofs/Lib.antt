@@ -23,3 +23,11 @@ pub mod RenewalJoins
 pub mod Renewal
 pub mod ReaderLaws
 pub mod Readings
+pub mod DeskPieces
+pub mod DeskHolds
+pub mod DeskHistory
+pub mod DeskJoins
+pub mod DeskCover
+pub mod DeskWhole
+pub mod DeskTaken
+pub mod Desk

@@ -5,5 +5,7 @@ pub mod Demand3
 pub mod Keys
 pub mod Salvage
 pub mod Renewal
+pub mod DeskBlocks
+pub mod Desk
 pub mod Reader
 pub mod Readings

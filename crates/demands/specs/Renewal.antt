@@ -14,10 +14,10 @@ use Rattle.answer.specs.Lent.{noRoom}
 use Rattle.field.specs.Added.{added}
 use Rattle.field.specs.Hiding.{Matched, Hidden, Gives}
 use Rattle.block.specs.Deals.{badNumber, badYear}
-use Rattle.block.specs.Open.{unread, check, header}
+use Rattle.block.specs.Open.{unread, check, header, tornBlock}
 use Rattle.adding.specs.declared.Pair.{Pair}
 use Rattle.adding.specs.Sum.{pairOf, pairIn, sumOf}
-use Rattle.adding.specs.Adding.{tornBlock, unlike, repeated, addLines, adding, sumInto}
+use Rattle.adding.specs.Adding.{unlike, repeated, addLines, adding, sumInto}
 use Rattle.dealing.specs.Deal.{Deal, dealFrom, again, dealPieces, heldBy, blockOf, card}
 use Rattle.dealing.specs.Dealt.{Made}
 use Rattle.pile.specs.Blocks.{blocks, restFrom, In}

@@ -165,6 +165,25 @@ those-split t i m (suc n) =
     let f : i + m + n ≡ i + (m + n) = omega arith in
     rw (e, f, those-split t i m n) (append-assoc (those t i m) (those t (i + m) n) (cond (t (i + (m + n))) ((i + (m + n)) ∷ []) []))
 
+-- g has the test at j too, and else the two agree: one more
+pub count-more : (f g : ℕ → Bool) (i n j : ℕ) → i ≤ j → j < i + n → f j ≡ false → g j ≡ true → ((s : ℕ) → i ≤ s → s < i + n → s ≢ j → g s ≡ f s)
+    → length (those g i n) ≡ length (those f i n) + 1
+unfolding those
+count-more f g i zero j l m a b h = absurd (omega arith)
+count-more f g i (suc n) j l m a b h =
+    ⊎-elim
+    (λ (e : j ≡ i + n).
+    let x : f (i + n) ≡ false = ap f (sym e) ∙ a in
+    let y : g (i + n) ≡ true = ap g (sym e) ∙ b in
+    let z : those g i n ≡ those f i n = those-same g f i n (λ s u v. h s u (omega arith) (λ q. omega arith)) in
+    rw (x, y, z) (omega (arith, length-append (those f i n) ((i + n) ∷ []), length-append (those f i n) [])))
+    (λ (less : j < i + n).
+    let e : g (i + n) ≡ f (i + n) = h (i + n) (omega arith) (omega arith) (λ q. omega arith) in
+    let r = count-more f g i n j l less a b (λ s u v. h s u (omega arith)) in
+    rw e
+    (omega (arith, r, length-append (those g i n) (cond (f (i + n)) ((i + n) ∷ []) []), length-append (those f i n) (cond (f (i + n)) ((i + n) ∷ []) []))))
+    (eq-or-lt-of-le (omega arith))
+
 -- ---- they rise
 pub record Rises (l : List ℕ) : Type 0 where
   pub rise : (a b : ℕ) → a < b → b < length l → getD l a 0 < getD l b 0

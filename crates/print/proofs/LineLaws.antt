@@ -122,6 +122,10 @@ number-few kind.Lone = omega arith
 number-few kind.NotKey = omega arith
 number-few kind.Unlike = omega arith
 number-few kind.Year = omega arith
+number-few kind.NoClient = omega arith
+number-few kind.Busy = omega arith
+number-few kind.Full = omega arith
+number-few kind.Closed = omega arith
 
 -- every usize is below 10 ^ 20
 pub refused-few : (k : Kind) (a b : ℕ) → a < 18446744073709551616 → b < 18446744073709551616 → length (refusedLine (number k) a b) ≤ 71

@@ -1,8 +1,14 @@
 // The functions for firmware, exported for C (include/titmeadow.h). Each is a thin function over one proved function.
+mod desks;
+
 use adding::Pair;
 use answer::Answer;
 use block::Opened;
 use block::Words;
+pub use desks::titmeadow_desk_ask;
+pub use desks::titmeadow_desk_close;
+pub use desks::titmeadow_desk_hand_in;
+pub use desks::titmeadow_desk_open;
 ghost use mathlib.Core.Path.{_≡_};
 ghost use mathlib.Core.Bool.{cond};
 ghost use mathlib.Core.List.{map};

@@ -9,8 +9,9 @@ use Rattle.answer.specs.Lent.{noRoom}
 use Rattle.answer.proofs.CheckLaws.{done-passed, stops, goes-on}
 use Rattle.answer.proofs.LentLaws.{room-refused, room-given}
 use Rattle.block.specs.Deals.{badNumber, badYear}
-use Rattle.adding.specs.Adding.{oneLines, unlike, repeated, addLines, adding}
-use Rattle.adding.proofs.AddLaws.{lines-true}
+use Rattle.block.specs.Open.{oneLines}
+use Rattle.block.proofs.OpenLaws.{one-true}
+use Rattle.adding.specs.Adding.{unlike, repeated, addLines, adding}
 use Rattle.adding.proofs.check_add.Statement.{statement}
 use Rattle.adding.proofs.check_add.Tie as tie
 
@@ -71,8 +72,8 @@ check-both-requires c κs =
     let e = t .before in
     let f = e .before .before in
     let s = f .before .before .before in (
-      lines-true (s .args .one .now) 1 (done-passed (oneLines (s .args .one .now) 1) (done 0) _ (sym (f .check-one .ensures) ∙ ap outcome (e .enum-told .given .1)) .0) .0,
-      lines-true (s .args .two .now) 2 (done-passed (oneLines (s .args .two .now) 2) (done 0) _ (sym (t .check-one2 .ensures) ∙ ap outcome (c .enum-told2 .given .1)) .0) .0,
+      one-true (s .args .one .now) 1 (done-passed (oneLines (s .args .one .now) 1) (done 0) _ (sym (f .check-one .ensures) ∙ ap outcome (e .enum-told .given .1)) .0) .0,
+      one-true (s .args .two .now) 2 (done-passed (oneLines (s .args .two .now) 2) (done 0) _ (sym (t .check-one2 .ensures) ∙ ap outcome (c .enum-told2 .given .1)) .0) .0,
     )
 
 returns-3 : tie.Need-returns-3

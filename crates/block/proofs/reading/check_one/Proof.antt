@@ -1,12 +1,12 @@
--- `adding::check_one` meets its contract: TORN speaks, or passes and leaves the block's own lines.
+-- `block::check_one` meets its contract: TORN speaks, or passes and leaves the block's own lines.
 -- Assumes nothing.
 use mathlib.Core.Path.{sym, _∙_}
 use borrow.Author.Needs.{needs}
 use borrow.Author.Tests.{eq-eqb, ne-eqb}
 use Rattle.answer.proofs.SaysLaws.{whole, passes, speaks}
-use Rattle.adding.specs.Adding.{oneLines}
-use Rattle.adding.proofs.check_one.Statement.{statement}
-use Rattle.adding.proofs.check_one.Tie as tie
+use Rattle.block.specs.Open.{oneLines}
+use Rattle.block.proofs.reading.check_one.Statement.{statement}
+use Rattle.block.proofs.reading.check_one.Tie as tie
 
 returns : tie.Need-returns
 returns c =

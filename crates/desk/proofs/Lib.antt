@@ -1,0 +1,15 @@
+pub mod StoreLaws
+pub mod RegionLaws
+pub mod WordLaws
+pub mod SaysLaws
+pub mod SoundLaws
+pub mod SlotLaws
+pub mod KeepLaws
+pub mod PutLaws
+pub mod ChainLaws
+pub mod NextLaws
+pub mod PartLaws
+pub mod AgreeLaws
+pub mod OwnLaws
+pub mod BlindLaws
+pub mod Laws
