@@ -1,4 +1,4 @@
-/* Titmeadow: planning, dealing, joining and renewing cards for the vault unit, and a desk for two clients. Link
+/* Titmeadow: planning, dealing, joining and renewing cards for the vault unit, a desk for two clients, and judging another maker's holdings. Link
  * target/staticlib/libtitmeadow.a (rt staticlib titmeadow).
  *
  * Whatever a call is given, it ends in its result or in a refusal, which has a number and the places a and b. A place is counted from
@@ -8,7 +8,7 @@
  * groups, head and the words of titmeadow_pack have their size in the declaration and no count, and a desk is one: they are never NULL.
  *
  * The archive is for x86-64. Its size, and the stack that each call takes on that target: docs/BENCHMARKS.md.
- * Symbols that it needs: memset.
+ * Symbols that it needs: memcpy, memset.
  */
 #ifndef TITMEADOW_H
 #define TITMEADOW_H
@@ -45,7 +45,7 @@
 extern "C" {
 #endif
 
-/* number 0: a result, its value in a; else a refusal and its two places */
+/* number 0: a result, its value in a (titmeadow_judge's is in a and b); else a refusal and its two places */
 typedef struct {
     size_t number, a, b;
 } titmeadow_answer;
@@ -80,7 +80,8 @@ enum titmeadow_refusal {
     TITMEADOW_NOCLIENT = 26, /* the client is neither 1 nor 2 */
     TITMEADOW_BUSY = 27,     /* the client that would open has opened, and not closed since */
     TITMEADOW_FULL = 28,     /* k is more than the slots that the other client leaves */
-    TITMEADOW_CLOSED = 29    /* the client has not opened, or has closed since */
+    TITMEADOW_CLOSED = 29,   /* the client has not opened, or has closed since */
+    TITMEADOW_ROWS = 30      /* a holding list is not in order: its people, pieces, needed number, number of marks, or a mark; titmeadow_judge has the ranges */
 };
 
 /* Planning: the result is k, the number of pieces. A set is a number in which the bit of person i is 2^(i-1).
@@ -88,6 +89,19 @@ enum titmeadow_refusal {
  * Refuses 1 to 5, 22, 6, 7, in this order. */
 titmeadow_answer titmeadow_plan(size_t people, const uint16_t *required, size_t required_count, const uint16_t *forbidden,
                                 size_t forbidden_count, uint16_t groups[TITMEADOW_PLACES(TITMEADOW_PIECES_MOST)]);
+
+/* Judging another maker's holding list by a policy. The list is for list_people people, and has pieces pieces, 1 to 70, of which needed are needed,
+ * 1 to pieces; marks has a row of pieces bytes for each person, person 1's in front: a byte is 1 where the person has that piece, else 0. It suits the
+ * policy if the members of every authorised group have needed different pieces between them or more, and those of no other group have. Number 0 is the verdict:
+ * a is 0 where the list suits, and else the first group, by its number as a set, for which it is wrong; b is then TITMEADOW_TOO_FEW or
+ * TITMEADOW_ENOUGH, and 0 where it suits. A list that does not suit is no refusal. The holdings that titmeadow_plan gives always suit, with all k
+ * pieces needed: person i has piece j unless i is in groups[j - 1].
+ * marks_count counts bytes. Refuses 1 to 5, 22, 6, 7, 30, in this order. */
+titmeadow_answer titmeadow_judge(size_t people, const uint16_t *required, size_t required_count, const uint16_t *forbidden,
+                                 size_t forbidden_count, size_t list_people, size_t pieces, size_t needed, const uint8_t *marks,
+                                 size_t marks_count);
+#define TITMEADOW_TOO_FEW 1 /* the group is authorised, and has fewer pieces than are needed */
+#define TITMEADOW_ENOUGH 2  /* the group is not authorised, and has as many as are needed */
 
 /* Dealing one holder's card: the result is its number of blocks, of 512 bytes each, which are written to the front of card; a
  * holder of no piece has a card without a block. The secret has w = words words, 1 to 16, and random has w(k - 1) words, not one more

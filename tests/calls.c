@@ -1,8 +1,8 @@
 /* Every exported call with every refusal that it can give: its number, both places, and all that was lent to be written, compared whole;
- * results and NULL for a count of 0 as well. tests/cards.c, piles.c, salvage.c, keys.c, adding.c, renewal.c and desk.c have the cases; what they expect is worked out
- * from docs/SCOPE.md, by hand where no rule is written here. It prints for each call the numbers that were met, 0 for a result; its status is
- * 0 only where all was as expected, and each call was seen to give all that it can. tools/firmware builds it, runs it and holds what it
- * prints to the header and to the archive. */
+ * results and NULL for a count of 0 as well. tests/cards.c, holdings.c, piles.c, salvage.c, keys.c, adding.c, renewal.c and desk.c have the
+ * cases; what they expect is worked out from docs/SCOPE.md, by hand where no rule is written here. It prints for each call the numbers that
+ * were met, 0 for a result; its status is 0 only where all was as expected, and each call was seen to give all that it can. tools/firmware
+ * builds it, runs it and holds what it prints to the header and to the archive. */
 #include <stdio.h>
 #include "calls.h"
 
@@ -14,6 +14,7 @@ static const struct {
     size_t gives[NUMBERS];
 } calls[CALLS] = {
     [PLAN] = {"titmeadow_plan", {1, 2, 3, 4, 5, 6, 22}},
+    [JUDGE] = {"titmeadow_judge", {1, 2, 3, 4, 5, 6, 22, 30}},
     [DEAL] = {"titmeadow_deal", {1, 2, 3, 4, 5, 6, 8, 9, 10, 11, 12, 22, 25}},
     [JOIN] = {"titmeadow_join", {12, 13, 14, 15, 16, 17, 18, 19, 20}},
     [JOIN_BY_DIFFERENCES] = {"titmeadow_join_by_differences", {12, 13, 14, 15, 16, 17, 18, 19, 20}},
@@ -144,6 +145,7 @@ int main(void) {
     for (size_t i = 0; i < COUNT(paints); i++) {
         paint = paints[i];
         cards();
+        holdings();
         piles();
         salvage();
         keys();

@@ -68,12 +68,16 @@ static titmeadow_answer deal(const struct policy *p, size_t number, size_t holde
     return deal_in(0, p, number, holder, secret, words, random, random_count, room);
 }
 
-/* Planning; dealing asks the policy first, here with nothing else that is right, the year neither. */
+/* Planning; dealing and judging ask the policy first, here with nothing else that is right, neither the year nor the list. */
 static void planning(void) {
     for (size_t i = 0; i < COUNT(bad_policies); i++) {
         const struct policy p = bad_policies[i].policy;
         is(PLAN, bad_policies[i].what, plan(p, lend()), bad_policies[i].answer, NONE);
         is(DEAL, bad_policies[i].what, deal_in(SIZE_MAX, &p, 0, 0, NONE, NONE, BLOCK), bad_policies[i].answer, NONE);
+        lend();
+        is(JUDGE, bad_policies[i].what,
+           titmeadow_judge(p.people, p.required, p.required_count, p.forbidden, p.forbidden_count, p.people + 1, 0, 1, NONE),
+           bad_policies[i].answer, NONE);
     }
     for (size_t i = 0; i < COUNT(good_policies); i++)
         is(PLAN, good_policies[i].what, plan(good_policies[i].policy, lend()), done(good_policies[i].count), good_policies[i].groups,

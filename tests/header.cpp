@@ -9,6 +9,7 @@ int main() {
     static uint8_t card[TITMEADOW_CARD_MOST * TITMEADOW_BLOCK_BYTES];
     const uint16_t required[] = {1 + 2, 2 + 4, 4 + 8}, word[] = {1234}, randomness[] = {5, 7};
     bool good = titmeadow_plan(4, required, 3, nullptr, 0, groups).a == 3;
+    good &= titmeadow_judge(4, required, 3, nullptr, 0, 4, 3, 3, nullptr, 0).number == TITMEADOW_ROWS;
     good &= titmeadow_deal(4, required, 3, nullptr, 0, 7, 2026, 4, word, 1, randomness, 2, card, sizeof card).a == 1;
     good &= titmeadow_pack(key, sizeof key, words).a == TITMEADOW_KEY_WORDS;
     good &= titmeadow_unpack(words, TITMEADOW_KEY_WORDS, key, sizeof key).a == TITMEADOW_KEY_BYTES;

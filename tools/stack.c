@@ -13,6 +13,7 @@ static size_t key_piled;
 static uint16_t required[256], groups[70], secret[16], words[16], randomness[16 * 69], head[7];
 static uint16_t list[2 * 560];
 static titmeadow_desk desk, few_desk, other_desk; /* client 1 has all pieces of `pile`; of `few`; nobody has any */
+static uint8_t marks[8 * 70];
 static size_t sets, piled, fewer;
 static volatile size_t sink;
 /* a policy, and how many pieces it has */
@@ -21,6 +22,7 @@ static size_t people, needs, bars, pieces;
 
 static void nothing(void) { sink = 1; }
 static void plan(void) { sink = titmeadow_plan(8, required, sets, required, 0, groups).a; }
+static void judge(void) { sink = titmeadow_judge(8, required, sets, required, 0, 8, 70, 70, marks, sizeof marks).a; }
 static void deal(void) { sink = titmeadow_deal(8, required, sets, required, 0, 7, 2026, 3, secret, 16, randomness, 16 * 69, card, sizeof card).a; }
 static void join(void) { sink = titmeadow_join(pile, piled, words, 16).a; }
 static void join_by_differences(void) { sink = titmeadow_join_by_differences(pile, piled, words, 16).a; }
@@ -48,6 +50,9 @@ static void pack(void) { sink = titmeadow_pack(key, 16, words).a; }
 static void unpack(void) { sink = titmeadow_unpack(secret, 10, key, 16).a; }
 static void deal_key(void) { sink = titmeadow_deal_key(8, required, sets, required, 0, 7, 2026, 3, key, 16, randomness, 10 * 69, card, sizeof card).a; }
 static void join_key(void) { sink = titmeadow_join_key(key_pile, key_piled, key, 16).a; }
+static void judge_lists(void) {
+    sink = titmeadow_judge(people, need, needs, bar, bars, people, pieces, pieces, marks, people * pieces).a;
+}
 static void plan_lists(void) { sink = titmeadow_plan(people, need, needs, bar, bars, groups).a; }
 static void deal_lists(void) { sink = titmeadow_deal(people, need, needs, bar, bars, 7, 2026, 1, secret, 16, randomness, 16 * (pieces - 1), card, sizeof card).a; }
 static void deal_key_lists(void) {
@@ -70,7 +75,9 @@ static size_t depth(void (*f)(void), int paint) {
     return sizeof stack - i;
 }
 
+/* the first run is not counted: symbols that are bound when they are first called would be */
 static size_t used(void (*f)(void)) {
+    depth(f, 0);
     size_t a = depth(f, 0xA5), b = depth(f, 0x5A);
     return a > b ? a : b;
 }
@@ -115,9 +122,17 @@ static void over_k(const char *name, void (*f)(void), size_t base) {
     printf("| `%s`, of 1 to 70 pieces | %zu to %zu |\n", name, least, most);
 }
 
-/* the least and the most that planning and dealing take on the policy that is laid out, and on all before it */
+/* our own holdings as a list: all but those in the group of a piece have it */
+static void mark(size_t n, size_t k) {
+    for (size_t i = 0; i < n && i < 8; i++)
+        for (size_t j = 0; j < k; j++)
+            marks[i * k + j] = (groups[j] >> i & 1) == 0;
+}
+
+/* the least and the most that planning, judging and dealing take on the policy that is laid out, and on all before it */
 static struct { const char *name; void (*f)(void); size_t least, most; } by_lists[] = {
-    {"titmeadow_plan", plan_lists, SIZE_MAX, 0}, {"titmeadow_deal", deal_lists, SIZE_MAX, 0}, {"titmeadow_deal_key", deal_key_lists, SIZE_MAX, 0}};
+    {"titmeadow_plan", plan_lists, SIZE_MAX, 0}, {"titmeadow_judge", judge_lists, SIZE_MAX, 0}, {"titmeadow_deal", deal_lists, SIZE_MAX, 0},
+    {"titmeadow_deal_key", deal_key_lists, SIZE_MAX, 0}};
 static size_t policies, accepted;
 
 static void take(size_t base) {
@@ -125,6 +140,7 @@ static void take(size_t base) {
     pieces = said.number == 0 ? said.a : 1;
     accepted += said.number == 0;
     policies++;
+    mark(people, pieces);
     for (size_t i = 0; i < sizeof by_lists / sizeof *by_lists; i++) {
         size_t bytes = used(by_lists[i].f) - base;
         by_lists[i].least = bytes < by_lists[i].least ? bytes : by_lists[i].least;
@@ -173,8 +189,10 @@ int main(void) {
     for (size_t holder = 1; holder <= 8; holder++)
         key_piled += 512 * titmeadow_deal_key(8, required, sets, required, 0, 7, 2026, holder, key, 16, randomness, 10 * 69, key_pile + key_piled,
                                               sizeof key_pile - key_piled).a;
+    titmeadow_plan(8, required, sets, required, 0, groups);
+    mark(8, 70);
     struct { const char *name; void (*f)(void); } calls[] = {
-        {"titmeadow_plan", plan}, {"titmeadow_deal", deal}, {"titmeadow_join", join}, {"titmeadow_join_by_differences", join_by_differences},
+        {"titmeadow_plan", plan}, {"titmeadow_judge", judge}, {"titmeadow_deal", deal}, {"titmeadow_join", join}, {"titmeadow_join_by_differences", join_by_differences},
         {"titmeadow_open", open}, {"titmeadow_salvage", salvage}, {"titmeadow_pack", pack}, {"titmeadow_unpack", unpack},
         {"titmeadow_deal_key", deal_key}, {"titmeadow_join_key", join_key}, {"titmeadow_add", add},
         {"titmeadow_desk_open", desk_open}, {"titmeadow_desk_hand_in", desk_hand_in}, {"titmeadow_desk_ask", desk_ask}, {"titmeadow_desk_close", desk_close}};

@@ -4,6 +4,7 @@
 pub mod cards;
 pub mod desks;
 pub mod inputs;
+pub mod lists;
 pub mod met;
 pub mod mixed;
 pub mod numbers;

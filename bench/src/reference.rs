@@ -4,6 +4,7 @@
 mod adding;
 mod desk;
 mod heaps;
+mod holdings;
 mod joined;
 mod keys;
 mod own;
@@ -13,6 +14,7 @@ mod salvage;
 pub use adding::add;
 pub use desk::{Desk, OPENING};
 pub use heaps::{heaps, outside, Label};
+pub use holdings::{judge, own, Holdings, Verdict};
 pub use joined::{by_differences, join, join_by_differences, weights};
 pub use keys::{deal_key, join_key, pack, unpack};
 pub use own::Own;

@@ -7,7 +7,7 @@ mod calls;
 #[path = "unit/served.rs"]
 mod calls;
 
-use crate::reference::{Deal, Desk, Refusal};
+use crate::reference::{Deal, Desk, Holdings, Refusal, Verdict};
 
 /// What a call answers, as include/titmeadow.h has it.
 #[repr(C)]
@@ -29,6 +29,18 @@ impl Answer {
 /// k; the first k places get the groups of the pieces.
 pub fn plan(people: usize, required: &[u16], forbidden: &[u16], groups: &mut [u16; 70]) -> Result<usize, Refusal> {
     calls::plan(people, required, forbidden, groups).result()
+}
+
+/// Whether a holding list suits a policy. Of the answer's two places no other pair than these is a verdict.
+pub fn judge(people: usize, required: &[u16], forbidden: &[u16], list: &Holdings) -> Result<Verdict, Refusal> {
+    let said = calls::judge(people, required, forbidden, list);
+    match (said.a, said.b) {
+        _ if said.number != 0 => Err(Refusal { number: said.number, a: said.a, b: said.b }),
+        (0, 0) => Ok(Verdict::Suits),
+        (1.., 1) => Ok(Verdict::Few(said.a)),
+        (1.., 2) => Ok(Verdict::Many(said.a)),
+        (a, b) => panic!("a verdict of {a} and {b}: {people} {required:?} {list:?}"),
+    }
 }
 
 /// One holder's card into the front of `out`; the number of blocks.

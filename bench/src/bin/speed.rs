@@ -1,7 +1,7 @@
 //! Benchmarks: the proved library against the independent Rust, in one run, both built for release; then its two joiners against each other.
 //! Median of many rounds; the two take turns within a round. Buffers are not cleared between calls.
 use bench::inputs;
-use bench::reference::{self, block_words, bytes_of, words_of, Deal, Desk, Refusal, BLOCK};
+use bench::reference::{self, block_words, bytes_of, own, words_of, Deal, Desk, Holdings, Refusal, Verdict, BLOCK};
 use bench::unit;
 use std::hint::black_box;
 use std::time::Instant;
@@ -66,6 +66,30 @@ fn pieces(d: &Deal) -> Vec<Vec<u8>> {
     blocks.sort_by_key(|block| block[13]);
     blocks.dedup_by_key(|block| block[13]);
     blocks
+}
+
+/// Judging holding lists by any five of eight: our own, a piece each, and our own with one needed fewer, which is wrong at the first four.
+fn judge(required: &[u16]) {
+    let ours = own(8, &reference::plan(8, required, &[]).unwrap());
+    let each = Holdings { people: 8, pieces: 8, needed: 5, marks: (0..64).map(|at| (at % 9 == 0) as u8).collect() };
+    let wrong = Holdings { needed: 69, ..ours.clone() };
+    for (name, list, want) in [
+        ("judging any five of eight, our own 70 pieces", &ours, Verdict::Suits),
+        ("judging any five of eight, a piece each", &each, Verdict::Suits),
+        ("judging any five of eight, 69 of our 70 needed", &wrong, Verdict::Many(15)),
+    ] {
+        assert_eq!(unit::judge(8, required, &[], list), Ok(want));
+        assert_eq!(reference::judge(8, required, &[], list), Ok(want));
+        compare(
+            name,
+            || {
+                black_box(unit::judge(8, black_box(required), &[], black_box(list))).ok();
+            },
+            || {
+                black_box(reference::judge(8, black_box(required), &[], black_box(list))).ok();
+            },
+        );
+    }
 }
 
 /// The four calls that have a key, by the policy of a deal.
@@ -294,6 +318,7 @@ fn main() {
             black_box(reference::plan(8, black_box(&d.required), &[])).ok();
         },
     );
+    judge(&d.required);
     let (mut ours, mut theirs) = (vec![0; 35 * BLOCK], vec![0; 35 * BLOCK]);
     compare(
         "dealing a card of 35 blocks of 16 words",

@@ -1,6 +1,6 @@
 //! The calls, linked. Nothing checks these declarations against the library: they are the ones of include/titmeadow.h.
 use super::Answer;
-use crate::reference::{Deal, Desk};
+use crate::reference::{Deal, Desk, Holdings};
 
 extern "C" {
     fn titmeadow_plan(
@@ -10,6 +10,18 @@ extern "C" {
         forbidden: *const u16,
         forbidden_count: usize,
         groups: *mut u16,
+    ) -> Answer;
+    fn titmeadow_judge(
+        people: usize,
+        required: *const u16,
+        required_count: usize,
+        forbidden: *const u16,
+        forbidden_count: usize,
+        list_people: usize,
+        pieces: usize,
+        needed: usize,
+        marks: *const u8,
+        marks_count: usize,
     ) -> Answer;
     fn titmeadow_deal(
         people: usize,
@@ -76,6 +88,23 @@ extern "C" {
 
 pub fn plan(people: usize, required: &[u16], forbidden: &[u16], groups: &mut [u16; 70]) -> Answer {
     unsafe { titmeadow_plan(people, required.as_ptr(), required.len(), forbidden.as_ptr(), forbidden.len(), groups.as_mut_ptr()) }
+}
+
+pub fn judge(people: usize, required: &[u16], forbidden: &[u16], list: &Holdings) -> Answer {
+    unsafe {
+        titmeadow_judge(
+            people,
+            required.as_ptr(),
+            required.len(),
+            forbidden.as_ptr(),
+            forbidden.len(),
+            list.people,
+            list.pieces,
+            list.needed,
+            list.marks.as_ptr(),
+            list.marks.len(),
+        )
+    }
 }
 
 pub fn deal(d: &Deal, holder: usize, out: &mut [u8]) -> Answer {

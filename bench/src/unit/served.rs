@@ -1,6 +1,6 @@
 //! The calls, asked through a pipe: bench/served.c says how. build.rs compiles it; each thread has a process of its own.
 use super::Answer;
-use crate::reference::{Deal, Desk};
+use crate::reference::{Deal, Desk, Holdings};
 use std::cell::RefCell;
 use std::io::{BufWriter, Read, Write};
 use std::process::{Child, ChildStdin, ChildStdout, Command, Stdio};
@@ -75,6 +75,10 @@ fn ask_words(call: u64, numbers: [usize; 4], lists: [&[u8]; 4], out: &mut [u16])
 
 pub fn plan(people: usize, required: &[u16], forbidden: &[u16], groups: &mut [u16; 70]) -> Answer {
     ask_words(1, [people, 0, 0, 0], [&bytes(required), &bytes(forbidden), &[], &[]], groups)
+}
+
+pub fn judge(people: usize, required: &[u16], forbidden: &[u16], list: &Holdings) -> Answer {
+    ask(20, [people, list.people, list.pieces, list.needed], [&bytes(required), &bytes(forbidden), &list.marks, &[]], &mut [])
 }
 
 pub fn deal(d: &Deal, holder: usize, out: &mut [u8]) -> Answer {

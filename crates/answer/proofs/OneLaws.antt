@@ -6,8 +6,8 @@ use Prim.Native.Nat.{ℕ}
 use lib.ListN.{getD}
 use Rattle.answer.specs.declared.Kind.{Kind}
 use Rattle.answer.specs.declared.Kind.the-variants.{People, LongList, Stranger, Nobody, Open, Clash, Wide, Deal, Holder, Secret, Random}
-use Rattle.answer.specs.declared.Kind.the-variants.{Room, Torn, Long, Unread, Check, Header, Mixed, Conflict, Short, Text, Lone, NotKey, Unlike}
-use Rattle.answer.specs.declared.Kind.the-variants.{Year, NoClient, Busy, Full, Closed}
+use Rattle.answer.specs.declared.Kind.the-variants.{Room, Torn, Long, Unread, Check, Header, Mixed, Conflict, Short, Text, Lone, NotKey, Unlike, Year}
+use Rattle.answer.specs.declared.Kind.the-variants.{NoClient, Busy, Full, Closed, Rows}
 use Rattle.answer.specs.declared.Refusal.{Refusal}
 use Rattle.answer.specs.declared.Answer.{Answer}
 use Rattle.answer.specs.declared.Answer.the-variants.{Done, Refused}
@@ -17,10 +17,10 @@ use Rattle.answer.specs.Outcome.{number, outcome}
 kindOf : ℕ → Kind
 kindOf n =
     getD
-    (Closed ∷ People ∷ LongList ∷ Stranger ∷ Nobody ∷ Open ∷ Clash ∷ Wide ∷ Deal ∷ Holder ∷ Secret ∷ Random
+    (Rows ∷ People ∷ LongList ∷ Stranger ∷ Nobody ∷ Open ∷ Clash ∷ Wide ∷ Deal ∷ Holder ∷ Secret ∷ Random
     ∷ Room ∷ Torn ∷ Long ∷ Unread ∷ Check ∷ Header ∷ Mixed ∷ Conflict ∷ Short ∷ Text ∷ Lone ∷ NotKey
-    ∷ Unlike ∷ Year ∷ NoClient ∷ Busy ∷ Full ∷ [])
-    n Closed
+    ∷ Unlike ∷ Year ∷ NoClient ∷ Busy ∷ Full ∷ Closed ∷ [])
+    n Rows
 
 kind-back : (k : Kind) → kindOf (number k) ≡ k
 unfolding kindOf
@@ -53,6 +53,7 @@ kind-back NoClient = refl
 kind-back Busy = refl
 kind-back Full = refl
 kind-back Closed = refl
+kind-back Rows = refl
 
 pub number-one : (j k : Kind) → number j ≡ number k → j ≡ k
 number-one j k e = sym (kind-back j) ∙ ap kindOf e ∙ kind-back k

@@ -34,6 +34,7 @@ pub enum Kind {
     Busy,
     Full,
     Closed,
+    Rows,
 }
 
 // A refusal: its kind and its two places, each 0 where SCOPE 6.2 names none.
@@ -83,6 +84,7 @@ pub fn number_of(k: Kind) -> usize
         Kind::Busy => 27,
         Kind::Full => 28,
         Kind::Closed => 29,
+        Kind::Rows => 30,
     }
 }
 

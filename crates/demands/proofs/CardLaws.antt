@@ -1,11 +1,10 @@
 -- Block a of a card, where it stands on the card, is that of the a-th piece that the holder has; and every block of whole cards is of 512
 -- bytes. Assumes nothing.
-use Prim.Native.Nat.{ℕ, zero, suc, _-_, _*_, _≤_, _<_}
-use mathlib.Core.Path.{_≡_, refl, sym, ap, _∙_}
-use mathlib.Core.List.{List, [], _∷_, _++_, map, Memᴰ·of-map}
-use native.Mathlib.Nat.{not-suc-le-zero, le-of-suc-le-suc}
+use Prim.Native.Nat.{ℕ, _-_, _*_, _≤_}
+use mathlib.Core.Path.{_≡_, sym, ap, _∙_}
+use mathlib.Core.List.{List, _++_, Memᴰ·of-map}
 use native.Mathlib.Omega.{arith}
-use lib.ListN.{length, getD, drop, length-map}
+use lib.ListN.{length, drop, length-map}
 use Rattle.lists.specs.Places.{at}
 use Rattle.lists.proofs.ThoseLaws.{at-in}
 use Rattle.dealing.specs.Deal.{Deal, heldBy, blockOf, cardBlocks, card}
@@ -13,13 +12,7 @@ use Rattle.dealing.proofs.MadeLaws.{InRange, block-length}
 use Rattle.demands.specs.Group.{Member, CardsOf}
 use Rattle.demands.specs.Demand2.{CardBlock}
 use Rattle.demands.proofs.BlockLaws.{card-block}
-use Rattle.lists.proofs.FlatLaws.{Long, flat-drop}
-
--- ---- a list of blocks made from a list of pieces
-pub map-at : (f : ℕ → List ℕ) (l : List ℕ) (a : ℕ) → a < length l → getD (map f l) a [] ≡ f (getD l a 0)
-map-at f [] a h = absurd (not-suc-le-zero h)
-map-at f (x ∷ l) zero h = refl
-map-at f (x ∷ l) (suc a) h = map-at f l a (le-of-suc-le-suc h)
+use Rattle.lists.proofs.FlatLaws.{Long, flat-drop, map-at}
 
 module _ (d : Deal) where
   pub card-long : (holder : ℕ) → Long 512 (cardBlocks d holder)

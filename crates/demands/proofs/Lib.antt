@@ -21,6 +21,7 @@ pub mod RenewalCards
 pub mod RenewalHiding
 pub mod RenewalJoins
 pub mod Renewal
+pub mod Judging
 pub mod ReaderLaws
 pub mod Readings
 pub mod DeskPieces

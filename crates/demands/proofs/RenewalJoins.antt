@@ -8,7 +8,7 @@ use lib.ListN.{length, getD, take, drop, length-map, take-append-drop}
 use lib.Seq.{length-take-le}
 use Rattle.lists.specs.Run.{run}
 use Rattle.lists.proofs.RunLaws.{run-length, run-at}
-use Rattle.lists.proofs.FlatLaws.{Long, flat-map, flat-drop}
+use Rattle.lists.proofs.FlatLaws.{Long, flat-map, flat-drop, map-at}
 use Rattle.prime.specs.Prime.{p}
 use Rattle.answer.specs.Outcome.{done}
 use Rattle.field.specs.Added.{added}
@@ -38,7 +38,6 @@ use Rattle.joining.specs.Laws.{Joins}
 use Rattle.joining.proofs.HeapLaws.{own-in}
 use Rattle.joining.proofs.SoundLaws.{sound-deal, place-has, place-held}
 use Rattle.demands.specs.Renewal.{blockAt, sumPile}
-use Rattle.demands.proofs.CardLaws.{map-at}
 
 -- ---- one block of a pile, taken out of it, has the words that it has there
 block-word : (pile : List ℕ) (a : ℕ) → In pile a → (i : ℕ) → 1 ≤ i → i ≤ 256 → wordAt (blockAt pile a) i ≡ word pile a i

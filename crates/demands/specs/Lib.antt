@@ -7,5 +7,6 @@ pub mod Salvage
 pub mod Renewal
 pub mod DeskBlocks
 pub mod Desk
+pub mod Judging
 pub mod Reader
 pub mod Readings

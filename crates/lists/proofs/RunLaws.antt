@@ -2,7 +2,7 @@
 -- Assumes nothing.
 use mathlib.Core.Path.{_≡_, refl, sym, ap, _∙_}
 use mathlib.Core.List.{List, [], _∷_, _++_}
-use Prim.Native.Nat.{ℕ, zero, suc, _+_, _-_, _≤_, _<_}
+use Prim.Native.Nat.{ℕ, zero, suc, _+_, _-_, _≤_, _<_, zero-le}
 use native.Mathlib.Nat.{not-suc-le-zero, le-of-suc-le-suc, add-zero, add-suc, suc-add}
 use native.Mathlib.Omega.{arith}
 use lib.ListN.{length, getD}
@@ -43,3 +43,10 @@ run-is f n l e h =
 -- two functions that agree have one run
 pub run-same : (f g : ℕ → ℕ) (n : ℕ) → ((j : ℕ) → 1 ≤ j → j ≤ n → f j ≡ g j) → run f 1 n ≡ run g 1 n
 run-same f g n h = run-is g n (run f 1 n) (run-length f 1 n) (λ j l m. run-at f n j l m ∙ h j l m)
+
+-- no number is above m where the function gives none
+pub run-few : (f : ℕ → ℕ) (m : ℕ) → ((j : ℕ) → f j ≤ m) → (x n i : ℕ) → getD (run f x n) i 0 ≤ m
+unfolding run
+run-few f m h x zero i = zero-le
+run-few f m h x (suc n) zero = h x
+run-few f m h x (suc n) (suc i) = run-few f m h (suc x) n i

@@ -65,6 +65,11 @@ pub and-all : (x : Bool) → (x && true) ≡ x
 and-all true = refl
 and-all false = refl
 
+-- two tests that are true together are equal
+pub alike : {a b : Bool} → (a ≡ true → b ≡ true) → (b ≡ true → a ≡ true) → a ≡ b
+alike {a} {b} f h =
+    ⊎-elim (λ (t : a ≡ true). t ∙ sym (f t)) (λ (e : a ≡ false). e ∙ sym (isn't (λ t. never e (h t)))) (decided a)
+
 -- two numbers that were read: their test, by what they are
 pub same-read : {x y u v : ℕ} → x ≡ u → y ≡ v → x ≡ y → eqb u v ≡ true
 same-read {u = u} {v = v} p q e = eq-eqb u v (sym p ∙ e ∙ q)

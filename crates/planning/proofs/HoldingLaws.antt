@@ -119,7 +119,7 @@ module _ (n : ℕ) (required : List ℕ) where
   )
 
   -- ---- k is not 0 where no required set is empty
-  empty-un : n ≤ 8 → ((s : ℕ) → s ∈ required → s < 2 ^ n) → ((s : ℕ) → s ∈ required → 1 ≤ s) → authorised required 0 ≡ false
+  pub empty-un : n ≤ 8 → ((s : ℕ) → s ∈ required → s < 2 ^ n) → ((s : ℕ) → s ∈ required → 1 ≤ s) → authorised required 0 ≡ false
   unfolding authorised
   empty-un few known none =
       isn't (λ t.

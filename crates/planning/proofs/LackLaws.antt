@@ -1,7 +1,7 @@
 -- What a group lacks of a set, in members and by `&`, `|` and `!`; a group with one person more; the set of all the people.
 -- Assumes nothing.
 use mathlib.Core.Path.{_≡_, refl, sym, ap, _∙_}
-use mathlib.Core.Bool.{Bool, true, false, cond, not, _&&_, _||_}
+use mathlib.Core.Bool.{true, false, cond, not, _&&_, _||_}
 use mathlib.Core.Logic.{_↔_, ⊎-elim}
 use Prim.Native.Nat.{ℕ, zero, suc, _+_, _-_, _/_, _^_, _≤_, _<_, max}
 use native.Mathlib.Nat.{not-suc-le-zero, le-of-suc-le-suc}
@@ -12,17 +12,12 @@ use lib.Pow.{pow-pos}
 use lib.Bits.{bitAnd, bitOr, or-step, or-shr, and-le-l}
 use borrow.Author.Tests.{eq-eqb, eqb-true}
 use Rattle.lists.specs.Some.{each}
-use Rattle.lists.proofs.Truth.{never, decided, isn't, both, and-both, or-cases, or-l, or-r, not-so, so-not}
+use Rattle.lists.proofs.Truth.{never, decided, isn't, alike, both, and-both, or-cases, or-l, or-r, not-so, so-not}
 use Rattle.lists.proofs.EachLaws.{each-at, each-of}
 use Rattle.planning.specs.Sets.{worth, member, inside, oneMember}
 use Rattle.planning.specs.Inner.{Lacked, Either}
-use Rattle.planning.proofs.SetLaws.{bit, bit-lt, bit-zero, bit-suc, bit-past, bit-and, some-bit, member-bit, bit-member, out-bit, bit-next, member-le, inside-at, inside-of, inside-more}
+use Rattle.planning.proofs.SetLaws.{bit, bit-lt, bit-zero, bit-suc, bit-past, bit-and, some-bit, member-bit, bit-member, out-bit, bit-next, nobody-in, member-le, inside-at, inside-of, inside-more}
 use Rattle.planning.proofs.CountLaws.{one-member-means}
-
--- two tests that are true together are equal
-pub alike : {a b : Bool} → (a ≡ true → b ≡ true) → (b ≡ true → a ≡ true) → a ≡ b
-alike {a} {b} f h =
-    ⊎-elim (λ (t : a ≡ true). t ∙ sym (f t)) (λ (e : a ≡ false). e ∙ sym (isn't (λ t. never e (h t)))) (decided a)
 
 -- ---- digits
 bit-or : (q a b : ℕ) → bit q (bitOr a b) ≡ max (bit q a) (bit q b)
@@ -52,6 +47,14 @@ bit-kept (suc p) g e zero n = rw (bit-zero g, bit-zero (g + 2 ^ suc p)) (omega a
 bit-kept (suc p) g e (suc q) n =
     let h : (g + 2 ^ suc p) / 2 ≡ g / 2 + 2 ^ p = omega arith in
     rw (bit-suc q g, bit-suc q (g + 2 ^ suc p), h) (bit-kept p (g / 2) (sym (bit-suc p g) ∙ e) q (λ z. n (ap suc z)))
+
+-- one person more is in the group then, and nothing changes for the others
+pub member-new : (p g : ℕ) → member p g ≡ false → member p (g + worth p) ≡ true
+member-new p g out = bit-member p (g + worth p) (bit-added (p - 1) g (out-bit p g out))
+
+pub member-kept : (p j g : ℕ) → 1 ≤ p → 1 ≤ j → member p g ≡ false → (j ≡ p → ⊥) → member j (g + worth p) ≡ member j g
+unfolding member
+member-kept p j g pos l out n = ap (λ (x : ℕ). eqb x 1) (bit-kept (p - 1) g (out-bit p g out) (j - 1) (λ e. n (omega arith)))
 
 -- ---- the sets that the code makes
 pub lacking-is : (r g : ℕ) → r < 2 ^ 16 → g < 2 ^ 16 → Lacked r g (bitAnd r (65535 - g))
@@ -103,9 +106,9 @@ only-lack r g p pos out = (there, back-there)
   where
     there : inside r (g + worth p) ≡ true → (j : ℕ) → 1 ≤ j → j ≤ 16 → member j r ≡ true → member j g ≡ false → j ≡ p
     there t j l h m o =
-        elim (ℕ-discrete (j - 1) (p - 1)) [
-          | yes e ↦ omega arith
-          | no n ↦ absurd (omega (arith, bit-kept (p - 1) g (out-bit p g out) (j - 1) n, out-bit j g o, member-bit j (g + worth p) (inside-at r (g + worth p) t j l h m)))
+        elim (ℕ-discrete j p) [
+          | yes e ↦ e
+          | no n ↦ absurd (never (member-kept p j g pos l out n ∙ o) (inside-at r (g + worth p) t j l h m))
         ]
 
     back-there : ((j : ℕ) → 1 ≤ j → j ≤ 16 → member j r ≡ true → member j g ≡ false → j ≡ p) → inside r (g + worth p) ≡ true
@@ -113,7 +116,7 @@ only-lack r g p pos out = (there, back-there)
         inside-of r (g + worth p)
         (λ j l h m. ⊎-elim (λ (u : member j g ≡ true). inside-at g (g + worth p) (inside-more p g out) j l h u)
         (λ (o : member j g ≡ false).
-        ap (λ (x : ℕ). member x (g + worth p)) (f j l h m o) ∙ bit-member p (g + worth p) (bit-added (p - 1) g (out-bit p g out)))
+        ap (λ (x : ℕ). member x (g + worth p)) (f j l h m o) ∙ member-new p g out)
         (decided (member j g)))
 
 -- ---- the tests of what a group lacks of a set
@@ -126,7 +129,7 @@ module _ {r g s : ℕ} (h : Lacked r g s) where
   lacks j l k m o = h .has j l k ∙ and-both m (so-not o)
 
   nobody : (i : ℕ) → s ≡ 0 → member i s ≡ true → ⊥
-  nobody i z m = omega (arith, member-bit i s m, ap (bit (i - 1)) z, bit-past 0 (i - 1) 0 (omega arith) (omega arith))
+  nobody i z m = never (ap (member i) z ∙ nobody-in i) m
 
   somebody : (s ≡ 0 → ⊥) → (j : ℕ) × (1 ≤ j) × (j ≤ 16) × (member j s ≡ true)
   somebody n =
@@ -176,5 +179,5 @@ module _ {r g s : ℕ} (h : Lacked r g s) where
               w .3 j l m ∙ sym (w .3 p pos (ap (member p) (sym same) ∙ u)))
               (λ (none : oneMember s ≡ false).
               let zero-a : a ≡ 0 = e ∙ rw none in
-              absurd (omega (arith, member-bit p a u, ap (bit (p - 1)) zero-a, bit-past 0 (p - 1) 0 (omega arith) (omega arith))))
+              absurd (never (ap (member p) zero-a ∙ nobody-in p) u))
               (decided (oneMember s))

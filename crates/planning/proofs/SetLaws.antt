@@ -3,7 +3,7 @@
 use mathlib.Core.Path.{_≡_, sym, ap, _∙_}
 use mathlib.Core.Bool.{true, false, not, _||_}
 use mathlib.Core.Logic.{_↔_, ⊎-elim}
-use Prim.Native.Nat.{ℕ, zero, suc, _+_, _-_, _/_, _%_, _^_, _≤_, _<_, min}
+use Prim.Native.Nat.{ℕ, zero, suc, _+_, _-_, _/_, _%_, _^_, _≤_, _<_, min, zero-le}
 use native.Mathlib.Nat.{le-refl, le-div-iff-mul-le, lt-of-not-le, not-suc-le-zero, le-of-suc-le-suc, mod-lt, div-one, div-eq-of-lt}
 use native.Mathlib.Decide.{decLe, ℕ-discrete}
 use native.Mathlib.Numerals.{add-one}
@@ -73,6 +73,11 @@ next-bit p s t = rw back at (member-bit (suc p) s t)
 
 pub bit-next : (p s : ℕ) → (bit p s ≡ 0 → ⊥) → member (suc p) s ≡ true
 bit-next p s n = bit-member (suc p) s (ap (λ (x : ℕ). bit x s) (back p) ∙ omega (arith, bit-lt p s))
+
+-- the empty set has no member
+pub nobody-in : (i : ℕ) → member i 0 ≡ false
+unfolding member
+nobody-in i = ap (λ (x : ℕ). eqb x 1) (bit-past 0 (i - 1) 0 (lit< tt) zero-le)
 
 -- a set of n people has no member above n
 pub member-le : (n i s : ℕ) → s < 2 ^ n → 1 ≤ i → member i s ≡ true → i ≤ n
@@ -174,6 +179,16 @@ stranger-means n s small = (
       (suc (n + r .0), omega arith, member-le 16 (suc (n + r .0)) s small (omega arith) m, m)),
   (λ m. surely (λ e. omega (arith, member-le n (m .0) s (lt-of-not-le (λ h. never e (le-leb _ _ h))) (omega arith) (m .3)))),
 )
+
+-- ---- two sets have a person in common exactly where their `&` is not 0
+pub common-at : (a b : ℕ) → (bitAnd a b ≡ 0 → ⊥) → (i : ℕ) × (1 ≤ i) × (member i a ≡ true) × (member i b ≡ true)
+common-at a b n =
+    let r = some-bit (bitAnd a b) (bitAnd a b) (omega arith) (lt-pow (bitAnd a b)) in
+    let e : min (bit (r .0) a) (bit (r .0) b) ≡ 1 = sym (bit-and (r .0) a b) ∙ r .1 in
+    (suc (r .0), omega arith, bit-next (r .0) a (λ z. omega arith), bit-next (r .0) b (λ z. omega arith))
+
+pub common-of : (a b i : ℕ) → member i a ≡ true → member i b ≡ true → bitAnd a b ≡ 0 → ⊥
+common-of a b i s t z = omega (arith, bit-and (i - 1) a b, ap (bit (i - 1)) z, bit-past 0 (i - 1) 0 (lit< tt) zero-le, member-bit i a s, member-bit i b t)
 
 -- ---- the empty set has no set inside it but itself
 pub inside-empty : (s : ℕ) → 1 ≤ s → s < 2 ^ 16 → inside s 0 ≡ true → ⊥

@@ -6,6 +6,7 @@ mod table;
 
 use answer::Answer;
 pub use sets::authorised;
+pub use sets::group_count;
 pub use sets::inside;
 pub use sets::marks;
 pub use table::Plan;

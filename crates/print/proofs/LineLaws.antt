@@ -126,6 +126,7 @@ number-few kind.NoClient = omega arith
 number-few kind.Busy = omega arith
 number-few kind.Full = omega arith
 number-few kind.Closed = omega arith
+number-few kind.Rows = omega arith
 
 -- every usize is below 10 ^ 20
 pub refused-few : (k : Kind) (a b : ℕ) → a < 18446744073709551616 → b < 18446744073709551616 → length (refusedLine (number k) a b) ≤ 71

@@ -7,6 +7,7 @@ use Rattle.answer.specs.Lent.{left}
 use Rattle.planning.specs.Groups.{groups}
 use Rattle.planning.specs.Policy.{Policy}
 use Rattle.planning.specs.Planned.{planned}
+use Rattle.holdings.specs.Judged.{Verdict, suits, tooFew, tooMany}
 use Rattle.block.specs.Layout.{frontWords}
 use Rattle.block.specs.Open.{opening}
 use Rattle.packing.specs.Key.{packed, packing}
@@ -16,6 +17,14 @@ use Rattle.titmeadow.specs.declared.Said.{Said}
 abbrev pub said : Outcome ℕ → Said
 said (done v) = record { number = 0; a = v; b = 0 }
 said (refused m a b) = record { number = m; a = a; b = b }
+
+-- a verdict on a holding list: number 0; a is the first group for which the list fails, 0 where it suits; b is 1 where that group is
+-- authorised and has too few pieces, 2 where it is not and has enough
+abbrev pub told : Outcome Verdict → Said
+told (done suits) = record { number = 0; a = 0; b = 0 }
+told (done (tooFew g)) = record { number = 0; a = g; b = 1 }
+told (done (tooMany g)) = record { number = 0; a = g; b = 2 }
+told (refused m a b) = record { number = m; a = a; b = b }
 
 -- the outcome of opening, where the result is how many words were written: seven
 abbrev pub seven : {A : Type 0} → Outcome A → Outcome ℕ

@@ -1,5 +1,6 @@
 // The functions for firmware, exported for C (include/titmeadow.h). Each is a thin function over one proved function.
 mod desks;
+mod judging;
 
 use adding::Pair;
 use answer::Answer;
@@ -9,6 +10,7 @@ pub use desks::titmeadow_desk_ask;
 pub use desks::titmeadow_desk_close;
 pub use desks::titmeadow_desk_hand_in;
 pub use desks::titmeadow_desk_open;
+pub use judging::titmeadow_judge;
 ghost use mathlib.Core.Path.{_≡_};
 ghost use mathlib.Core.Bool.{cond};
 ghost use mathlib.Core.List.{map};

@@ -1,0 +1,5 @@
+pub mod Holdings
+pub mod Judged
+pub mod Own
+pub mod Inner
+pub mod Laws
