@@ -27,7 +27,7 @@
 #define TITMEADOW_BLOCK_WORDS 256 /* two bytes each, the high one in front */
 #define TITMEADOW_HEAD_WORDS 7    /* mark, deal number, holder, people, k, w, piece */
 #define TITMEADOW_YEAR_WORD 24    /* the word of a block, from 1, that has the year of the deal: its bytes 47 and 48, from 1, the high one in front */
-#define TITMEADOW_CARD_MOST 35    /* blocks on a card; titmeadow_deal says why */
+#define TITMEADOW_CARD_MOST 35    /* blocks on a card */
 #define TITMEADOW_PILE_MOST 560   /* blocks in a pile */
 #define TITMEADOW_SLOTS 70        /* slots of a desk, for the pieces of both clients */
 #define TITMEADOW_SLOT_NUMBERS (1 + TITMEADOW_SECRET_MOST) /* a mark, and the values of a piece */
@@ -58,7 +58,7 @@ enum titmeadow_refusal {
     TITMEADOW_NOBODY = 4,    /* no set is required */
     TITMEADOW_OPEN = 5,      /* the empty set is required; a: its first place */
     TITMEADOW_CLASH = 6,     /* a required set lies inside a forbidden one; a: the first such set, b: the first forbidden set around it */
-    TITMEADOW_WIDE = 7,      /* there are over 70 maximal groups, which 8 people never have */
+    /* 7 is vacant: it was for over 70 maximal groups, which 8 people are proved never to have. No other refusal gets the number. */
     TITMEADOW_DEAL = 8,      /* the deal number is 0 or exceeds 32748; number and year are both those of one of the blocks that are added */
     TITMEADOW_HOLDER = 9,    /* the holder is 0 or exceeds the number of people */
     TITMEADOW_SECRET = 10,   /* no words, or more than 16, or a key not of 16 bytes (a = 0); else some word exceeds 32748; a: the first such word */
@@ -86,7 +86,8 @@ enum titmeadow_refusal {
 
 /* Planning: the result is k, the number of pieces. A set is a number in which the bit of person i is 2^(i-1).
  * groups has 70 places: the group of piece j, those who lack it, goes to groups[j - 1]; the first k are written.
- * Refuses 1 to 5, 22, 6, 7, in this order. */
+ * k is at most 70, and of fewer people than 8 less: of 1 to 8 at most 1, 2, 3, 6, 10, 20, 35, 70.
+ * Refuses 1 to 5, 22, 6, in this order. */
 titmeadow_answer titmeadow_plan(size_t people, const uint16_t *required, size_t required_count, const uint16_t *forbidden,
                                 size_t forbidden_count, uint16_t groups[TITMEADOW_PLACES(TITMEADOW_PIECES_MOST)]);
 
@@ -96,7 +97,8 @@ titmeadow_answer titmeadow_plan(size_t people, const uint16_t *required, size_t 
  * a is 0 where the list suits, and else the first group, by its number as a set, for which it is wrong; b is then TITMEADOW_TOO_FEW or
  * TITMEADOW_ENOUGH, and 0 where it suits. A list that does not suit is no refusal. The holdings that titmeadow_plan gives always suit, with all k
  * pieces needed: person i has piece j unless i is in groups[j - 1].
- * marks_count counts bytes. Refuses 1 to 5, 22, 6, 7, 30, in this order. */
+ * Where every piece is needed, a list that suits has as many as that plan or more.
+ * marks_count counts bytes. Refuses 1 to 5, 22, 6, 30, in this order. */
 titmeadow_answer titmeadow_judge(size_t people, const uint16_t *required, size_t required_count, const uint16_t *forbidden,
                                  size_t forbidden_count, size_t list_people, size_t pieces, size_t needed, const uint8_t *marks,
                                  size_t marks_count);
@@ -108,10 +110,9 @@ titmeadow_answer titmeadow_judge(size_t people, const uint16_t *required, size_t
  * or less, even and never used again; each of both is 0 to 32748. Every card of a deal is made from the same policy, deal number, year,
  * secret and random. deal is 1 to 32748 and year 0 to 32748: a number may come again in another year, and cards of two years do not join.
  * Cards that were made when blocks had no year are cards of year 0.
- * room counts bytes. Refuses 1 to 5, 22, 6 to 8, 25, 9 to 12, in this order.
- * A card has at most 35 blocks: the groups of its pieces are of the other seven people, none inside another, and by Sperner's theorem
- * there are no more such. That is not proved here; proved is that k is at most 70, so that 70 blocks are room for every card. A card
- * that does not fit is refused. */
+ * room counts bytes. Refuses 1 to 5, 22, 6, 8, 25, 9 to 12, in this order.
+ * No card has over 35 blocks: the groups of its pieces are of the other seven people, none inside another, and there are no more such. A
+ * card that does not fit is refused. */
 titmeadow_answer titmeadow_deal(size_t people, const uint16_t *required, size_t required_count, const uint16_t *forbidden,
                                 size_t forbidden_count, size_t deal, size_t year, size_t holder, const uint16_t *secret, size_t words,
                                 const uint16_t *random, size_t random_count, uint8_t *card, size_t room);
@@ -152,7 +153,7 @@ titmeadow_answer titmeadow_unpack(const uint16_t *words, size_t count, uint8_t *
 
 /* Dealing one holder's card of a key, which is dealt as its ten words: all is as titmeadow_deal has it for a secret of w = 10 words, so
  * random has 10(k - 1) words. The result is the number of blocks, which are written to the front of card. room counts bytes.
- * Refuses 1 to 5, 22, 6 to 8, 25, 9; 10 (the key has not 16 bytes; a = 0); 11; 12 (a: blocks), in this order. */
+ * Refuses 1 to 5, 22, 6, 8, 25, 9; 10 (the key has not 16 bytes; a = 0); 11; 12 (a: blocks), in this order. */
 titmeadow_answer titmeadow_deal_key(size_t people, const uint16_t *required, size_t required_count, const uint16_t *forbidden,
                                     size_t forbidden_count, size_t deal, size_t year, size_t holder, const uint8_t *key, size_t length,
                                     const uint16_t *random, size_t random_count, uint8_t *card, size_t room);

@@ -30,8 +30,8 @@ static const struct {
     [DESK_ASK] = {"titmeadow_desk_ask", {12, 20, 26, 29}},
     [DESK_CLOSE] = {"titmeadow_desk_close", {26, 29}},
 };
-/* Those that no input gives: eight people never have over 70 maximal groups, and the listing program alone reads texts. */
-static const size_t never[] = {TITMEADOW_WIDE, TITMEADOW_TEXT};
+/* Those that no input gives: the listing program alone reads texts. */
+static const size_t never[] = {TITMEADOW_TEXT};
 
 /* What is lent to be written lies inside a painted field, and what the field has to be afterwards is painted alike. */
 enum { MARGIN = 64, FIELD = MARGIN + TITMEADOW_CARD_MOST * BLOCK + MARGIN };

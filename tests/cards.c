@@ -84,6 +84,39 @@ static void planning(void) {
            2 * good_policies[i].count);
 }
 
+/* Where more than half of the people open, whoever they are, the pieces are as many as so many people can have, and their groups are those of half of
+ * them, rounded down; one person would open alone. Nobody has more than fit on the largest card. */
+static void halves(void) {
+    const size_t most[TITMEADOW_PEOPLE_MOST] = {1, 2, 3, 6, 10, 20, 35, TITMEADOW_PIECES_MOST};
+    uint16_t required[TITMEADOW_PIECES_MOST], half[TITMEADOW_PIECES_MOST];
+    for (size_t people = 1; people <= TITMEADOW_PEOPLE_MOST; people++) {
+        struct policy p = {people, required, 0, NONE};
+        size_t groups = 0;
+        for (unsigned set = 0; set < 1u << people; set++) {
+            size_t members = 0;
+            for (unsigned person = 0; person < people; person++)
+                members += set >> person & 1;
+            if (members == people / 2)
+                half[groups++] = (uint16_t)set;
+            if (members == people / 2 + 1)
+                required[p.required_count++] = (uint16_t)set;
+        }
+        if (groups != most[people - 1])
+            fault(PLAN, "more than half of the people", "another number of groups");
+        if (people == 1)
+            is(PLAN, "more than half of one person", plan(p, lend()), refused(TITMEADOW_LONE, 1, 0), NONE);
+        else
+            is(PLAN, "more than half of the people", plan(p, lend()), done(groups), half, 2 * groups);
+        for (unsigned person = 0; person < people; person++) {
+            size_t pieces = 0;
+            for (size_t j = 0; j < groups; j++)
+                pieces += (half[j] >> person & 1) == 0;
+            if (pieces > TITMEADOW_CARD_MOST)
+                fault(PLAN, "more than half of the people", "somebody has more pieces than fit on a card");
+        }
+    }
+}
+
 static uint16_t seventeen[TITMEADOW_SECRET_MOST + 1];
 static const uint16_t zeros[TITMEADOW_RANDOM_MOST];
 
@@ -189,6 +222,7 @@ void cards(void) {
     }
     seventeen[3] = TITMEADOW_WORD_MOST + 1;
     planning();
+    halves();
     dealing();
     years();
 }

@@ -76,11 +76,8 @@ pub fn plan(people: usize, required: &[u16], forbidden: &[u16]) -> Result<Vec<u1
     let maximal = |group: &usize| {
         !authorised[*group] && (0..people).all(|person| group >> person & 1 == 1 || authorised[group | 1 << person])
     };
-    let groups: Vec<u16> = (0..all).filter(maximal).map(|group| group as u16).collect();
-    if groups.len() > 70 {
-        return refuse(7, 0, 0);
-    }
-    Ok(groups)
+    // never over 70 of them, though nothing here sees to it
+    Ok((0..all).filter(maximal).map(|group| group as u16).collect())
 }
 
 /// The pieces that a holder has, from 1.

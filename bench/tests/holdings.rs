@@ -23,14 +23,15 @@ const KINDS: [&str; 14] = [
     "a required set is cut: too few",
 ];
 
-const PLACES: [&str; 8] = [
+const PLACES: [&str; 9] = [
     "too few: group 3",
     "too few: everybody",
     "too few: another group",
     "enough: somebody alone",
     "enough: all but one",
     "enough: another group",
-    "suits, and all pieces are needed",
+    "suits, all pieces needed, as many as ours",
+    "suits, all pieces needed, more than ours",
     "suits, and fewer are needed than there are",
 ];
 
@@ -47,8 +48,13 @@ fn way(verdict: Verdict) -> &'static str {
 fn describe(kinds: &mut Kinds, case: &lists::Case, verdict: Verdict) {
     kinds.note(format!("{}: {}", case.kind, way(verdict)));
     let all = (1 << case.people) - 1;
+    // where all pieces are needed, no list that suits has fewer than ours (SCOPE 2.2)
+    let k = reference::plan(case.people, &case.required, &case.forbidden).unwrap().len();
+    let all_needed = case.list.needed == case.list.pieces;
+    assert!(verdict != Verdict::Suits || !all_needed || case.list.pieces >= k, "{case:?}");
     kinds.note(match verdict {
-        Verdict::Suits if case.list.needed == case.list.pieces => "suits, and all pieces are needed",
+        Verdict::Suits if all_needed && case.list.pieces == k => "suits, all pieces needed, as many as ours",
+        Verdict::Suits if all_needed => "suits, all pieces needed, more than ours",
         Verdict::Suits => "suits, and fewer are needed than there are",
         Verdict::Few(3) => "too few: group 3",
         Verdict::Few(group) if group == all => "too few: everybody",

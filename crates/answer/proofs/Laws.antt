@@ -8,6 +8,9 @@ use Rattle.answer.proofs.LentLaws as lent
 pub number-one : law.NumberOne
 number-one = one.number-one
 
+pub seven-vacant : law.SevenVacant
+seven-vacant = one.seven-vacant
+
 pub outcome-one : law.OutcomeOne
 outcome-one = one.outcome-one
 

@@ -2,10 +2,12 @@
 -- Assumes nothing.
 use mathlib.Core.Path.{_≡_, refl, ap, sym, _∙_}
 use mathlib.Core.List.{[], _∷_}
+use mathlib.Core.Logic.{_≢_}
 use Prim.Native.Nat.{ℕ}
+use native.Mathlib.Omega.{arith}
 use lib.ListN.{getD}
 use Rattle.answer.specs.declared.Kind.{Kind}
-use Rattle.answer.specs.declared.Kind.the-variants.{People, LongList, Stranger, Nobody, Open, Clash, Wide, Deal, Holder, Secret, Random}
+use Rattle.answer.specs.declared.Kind.the-variants.{People, LongList, Stranger, Nobody, Open, Clash, Deal, Holder, Secret, Random}
 use Rattle.answer.specs.declared.Kind.the-variants.{Room, Torn, Long, Unread, Check, Header, Mixed, Conflict, Short, Text, Lone, NotKey, Unlike, Year}
 use Rattle.answer.specs.declared.Kind.the-variants.{NoClient, Busy, Full, Closed, Rows}
 use Rattle.answer.specs.declared.Refusal.{Refusal}
@@ -13,11 +15,11 @@ use Rattle.answer.specs.declared.Answer.{Answer}
 use Rattle.answer.specs.declared.Answer.the-variants.{Done, Refused}
 use Rattle.answer.specs.Outcome.{number, outcome}
 
--- the kind of a number
+-- the kind of a number; no kind has 0 or 7
 kindOf : ℕ → Kind
 kindOf n =
     getD
-    (Rows ∷ People ∷ LongList ∷ Stranger ∷ Nobody ∷ Open ∷ Clash ∷ Wide ∷ Deal ∷ Holder ∷ Secret ∷ Random
+    (Rows ∷ People ∷ LongList ∷ Stranger ∷ Nobody ∷ Open ∷ Clash ∷ Rows ∷ Deal ∷ Holder ∷ Secret ∷ Random
     ∷ Room ∷ Torn ∷ Long ∷ Unread ∷ Check ∷ Header ∷ Mixed ∷ Conflict ∷ Short ∷ Text ∷ Lone ∷ NotKey
     ∷ Unlike ∷ Year ∷ NoClient ∷ Busy ∷ Full ∷ Closed ∷ [])
     n Rows
@@ -30,7 +32,6 @@ kind-back Stranger = refl
 kind-back Nobody = refl
 kind-back Open = refl
 kind-back Clash = refl
-kind-back Wide = refl
 kind-back Deal = refl
 kind-back Holder = refl
 kind-back Secret = refl
@@ -57,6 +58,11 @@ kind-back Rows = refl
 
 pub number-one : (j k : Kind) → number j ≡ number k → j ≡ k
 number-one j k e = sym (kind-back j) ∙ ap kindOf e ∙ kind-back k
+
+-- 7 is the number of no kind
+pub seven-vacant : (k : Kind) → number k ≢ 7
+unfolding kindOf
+seven-vacant k e = let q : k ≡ Rows = sym (kind-back k) ∙ ap kindOf e in omega (arith, ap number q)
 
 -- antt compares two records by their fields: what is shown of `made` at a refusal's fields is shown of the refusal
 abbrev made : Kind → ℕ → ℕ → Refusal

@@ -3,7 +3,7 @@
 use mathlib.Core.Path.{_≡_, refl, sym, subst}
 use mathlib.Core.Bool.{Bool, true, false}
 use mathlib.Core.List.{List, [], _∷_, _++_, Memᴰ·map}
-use mathlib.Core.Logic.{_⊎_, inl, inr, ⊎-elim}
+use mathlib.Core.Logic.{_⊎_, inl, inr, ⊎-elim, _≢_}
 use Prim.Native.Nat.{ℕ, _+_}
 use lib.Dec.{eqb}
 use lib.ListN.{length}
@@ -18,6 +18,7 @@ use Rattle.answer.specs.Outcome.{Outcome, done, refused, number}
 use Rattle.answer.specs.Checks.{Line, pick, firstFail, numbers}
 use Rattle.answer.specs.Laws.{Passed}
 use Rattle.answer.proofs.CheckLaws.{passed-none, passed-one, refused-by}
+use Rattle.answer.proofs.OneLaws.{seven-vacant}
 
 -- the refusal m, a, b is that of the line l
 pub record Gives (l : Line) (m a b : ℕ) : Type 0 where
@@ -35,6 +36,10 @@ pub refused-number : {A : Type 0} (ls : List Line) (v : A) (m a b : ℕ) → fir
 refused-number ls v m a b e =
     let r = refused-by ls v m a b e in
     subst (λ (x : ℕ). x ∈ numbers ls) (r .number-is) (Memᴰ·map (λ (l : Line). number (l .kind)) (r .listed))
+
+-- and none has the number 7
+pub not-seven : {A : Type 0} (ls : List Line) (v : A) (a b : ℕ) → firstFail ls (done v) ≢ refused 7 a b
+not-seven ls v a b e = let r = refused-by ls v 7 a b e in seven-vacant (r .line .kind) (r .number-is)
 
 pub none-gives : {A : Type 0} (m : ℕ) (ls : List Line) (v : A) (a b : ℕ) → firstFail ls (done v) ≡ refused m a b → Without m ls → ⊥
 none-gives m ls v a b e n = never n (in-some (eqb m) (numbers ls) m (refused-number ls v m a b e) (eq-eqb m m refl))

@@ -3,6 +3,7 @@
 use mathlib.Core.Path.{_≡_}
 use mathlib.Core.List.{List, List·Memᴰ}
 use mathlib.Core.Bool.{true, false}
+use mathlib.Core.Logic.{_≢_}
 use Prim.Native.Nat.{ℕ}
 use Rattle.answer.specs.declared.Kind.{Kind}
 use Rattle.answer.specs.declared.Answer.{Answer}
@@ -15,6 +16,10 @@ use Rattle.answer.specs.Lent.{left}
 -- Two kinds with one number are one kind.
 abbrev pub NumberOne : Type 0
 NumberOne = (j k : Kind) → number j ≡ number k → j ≡ k
+
+-- The number 7 is vacant: no kind has it.
+abbrev pub SevenVacant : Type 0
+SevenVacant = (k : Kind) → number k ≢ 7
 
 -- Equal outcomes, equal answers: a promise `outcome r ≡ ..` leaves one possible answer.
 abbrev pub OutcomeOne : Type 0

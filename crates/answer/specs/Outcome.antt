@@ -2,13 +2,13 @@
 -- Assumes nothing.
 use Prim.Native.Nat.{ℕ}
 use Rattle.answer.specs.declared.Kind.{Kind}
-use Rattle.answer.specs.declared.Kind.the-variants.{People, LongList, Stranger, Nobody, Open, Clash, Wide, Deal, Holder, Secret, Random}
+use Rattle.answer.specs.declared.Kind.the-variants.{People, LongList, Stranger, Nobody, Open, Clash, Deal, Holder, Secret, Random}
 use Rattle.answer.specs.declared.Kind.the-variants.{Room, Torn, Long, Unread, Check, Header, Mixed, Conflict, Short, Text, Lone, NotKey, Unlike, Year}
 use Rattle.answer.specs.declared.Kind.the-variants.{NoClient, Busy, Full, Closed, Rows}
 use Rattle.answer.specs.declared.Answer.{Answer}
 use Rattle.answer.specs.declared.Answer.the-variants.{Done, Refused}
 
--- the number that SCOPE 6.2 gives each refusal
+-- the number that SCOPE 6.2 gives each refusal; 7 is vacant
 abbrev pub number : Kind → ℕ
 number People = 1
 number LongList = 2
@@ -16,7 +16,6 @@ number Stranger = 3
 number Nobody = 4
 number Open = 5
 number Clash = 6
-number Wide = 7
 number Deal = 8
 number Holder = 9
 number Secret = 10

@@ -3,7 +3,7 @@
 ghost use mathlib.Core.Path.{_≡_};
 ghost use Rattle.answer.specs.Outcome.{number, outcome, refused};
 
-// The kinds of refusal, in the order of the table in SCOPE 6.2.
+// The kinds of refusal, in the order of the table in SCOPE 6.2. None has the number 7, which is vacant.
 pub enum Kind {
     People,
     LongList,
@@ -11,7 +11,6 @@ pub enum Kind {
     Nobody,
     Open,
     Clash,
-    Wide,
     Deal,
     Holder,
     Secret,
@@ -61,7 +60,6 @@ pub fn number_of(k: Kind) -> usize
         Kind::Nobody => 4,
         Kind::Open => 5,
         Kind::Clash => 6,
-        Kind::Wide => 7,
         Kind::Deal => 8,
         Kind::Holder => 9,
         Kind::Secret => 10,

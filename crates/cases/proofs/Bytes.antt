@@ -16,7 +16,7 @@ use Rattle.lists.specs.Some.{each, some}
 use Rattle.planning.specs.Sets.{inside, member, stranger, memberCount, oneMember}
 use Rattle.planning.specs.Groups as planning
 use Rattle.planning.specs.Groups.{authorised, tight, maximalBy, groupsBy, holds}
-use Rattle.planning.specs.Planned.{people, long, strangers, nobody, opens, lone, clashPlace, clash, wide, listLines, planLines}
+use Rattle.planning.specs.Planned.{people, long, strangers, nobody, opens, lone, clashPlace, clash, listLines, planLines}
 use Rattle.block.specs.Words.{wordAt, bytesOf, weighted, checkOf}
 use Rattle.block.specs.Layout.{heldAt, rangeAt, valuesOf, rightAt, firstWrong}
 use Rattle.block.specs.Open.{firstAbove}
@@ -41,7 +41,7 @@ one-block = refl
 
 -- the deal can be made
 pub made : Made deal11
-unfolding dealing dealLines firstFail planLines listLines people long strangers nobody opens lone clash clashPlace wide stranger memberCount oneMember inputLines badNumber badYear badHolder badWidth badSecret badCount badRandom noRoom blockCount heldBy dealPieces firstPlace firstFrom planning.held holds groupsBy those maximalBy tight authorised some each inside member set
+unfolding dealing dealLines firstFail planLines listLines people long strangers nobody opens lone clash clashPlace stranger memberCount oneMember inputLines badNumber badYear badHolder badWidth badSecret badCount badRandom noRoom blockCount heldBy dealPieces firstPlace firstFrom planning.held holds groupsBy those maximalBy tight authorised some each inside member set
 made = record { holder = 4; room = 512; blocks = 1; answer = refl }
 
 -- every byte of that block

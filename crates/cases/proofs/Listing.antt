@@ -6,7 +6,7 @@ use Rattle.lists.specs.Places.{firstFrom, firstPlace, those}
 use Rattle.planning.specs.Sets.{member, inside, stranger, memberCount, oneMember}
 use Rattle.lists.specs.Some.{each, some}
 use Rattle.planning.specs.Groups.{authorised, tight, maximalBy, groupsBy, holds}
-use Rattle.planning.specs.Planned.{people, long, strangers, nobody, opens, lone, clashPlace, clash, wide, listLines, planLines, planned}
+use Rattle.planning.specs.Planned.{people, long, strangers, nobody, opens, lone, clashPlace, clash, listLines, planLines, planned}
 use Rattle.print.specs.Decimal.{digits}
 use Rattle.print.specs.Lines.{spaced, spacedAll, label, pairLine, rising}
 use Rattle.policy.specs.Policy.{lines, begins, oneDigit, peopleIn, members, lineSays, requiredIn, forbiddenIn, badAt, badLine, policyIn, readPolicy}
@@ -15,5 +15,5 @@ use Rattle.cases.specs.Plain.{bytes, textOf}
 use Rattle.cases.specs.Table.{text1, printed1}
 
 pub prints : listed text1 ≡ printed1
-unfolding listed listedPlan listing listingBy rising holderLine pieceLine firstLine pairLine label spacedAll spaced digits lines begins oneDigit peopleIn members lineSays requiredIn forbiddenIn badAt badLine policyIn readPolicy bytes textOf planned planLines listLines people long strangers nobody opens lone clashPlace clash wide firstFail firstFrom firstPlace those member each inside stranger memberCount oneMember some authorised tight maximalBy groupsBy holds
+unfolding listed listedPlan listing listingBy rising holderLine pieceLine firstLine pairLine label spacedAll spaced digits lines begins oneDigit peopleIn members lineSays requiredIn forbiddenIn badAt badLine policyIn readPolicy bytes textOf planned planLines listLines people long strangers nobody opens lone clashPlace clash firstFail firstFrom firstPlace those member each inside stranger memberCount oneMember some authorised tight maximalBy groupsBy holds
 prints = refl

@@ -13,7 +13,7 @@ use Rattle.prime.specs.Prime.{minus}
 use Rattle.planning.specs.Sets.{member, inside, stranger, memberCount, oneMember, marks}
 use Rattle.lists.specs.Some.{each, some}
 use Rattle.planning.specs.Groups.{authorised, tight, maximalBy, groupsBy, holds, held, rowsOf}
-use Rattle.planning.specs.Planned.{people, long, strangers, nobody, opens, lone, clashPlace, clash, wide, listLines, planLines, planned, plannedRows}
+use Rattle.planning.specs.Planned.{people, long, strangers, nobody, opens, lone, clashPlace, clash, listLines, planLines, planned, plannedRows}
 use Rattle.dealing.proofs.Laws as dealing
 use Rattle.joining.proofs.Laws as joining
 use Rattle.cases.specs.Plain.{set}
@@ -22,7 +22,7 @@ use Rattle.cases.proofs.Listing.{prints}
 use Rattle.cases.proofs.Bytes.{the-block, the-year, dealt, short-two}
 
 pub table : Table
-unfolding planned plannedRows rowsOf marks planLines listLines people long strangers nobody opens lone clashPlace clash wide firstFail firstFrom firstPlace those member each inside stranger memberCount oneMember some authorised tight maximalBy groupsBy holds held set run value joined joinedIn diffs rowsIn rows firsts withPlus withMinus alternating byDifferences minus
+unfolding planned plannedRows rowsOf marks planLines listLines people long strangers nobody opens lone clashPlace clash firstFail firstFrom firstPlace those member each inside stranger memberCount oneMember some authorised tight maximalBy groupsBy holds held set run value joined joinedIn diffs rowsIn rows firsts withPlus withMinus alternating byDifferences minus
 table =
     record {
       p1 = (record { answer = refl; groups-are = refl; rows = refl }, refl, prints);

@@ -20,6 +20,9 @@ blocks-open d m holder j l u h = made.blocks-open d (made.made-in-range d m) hol
 pub card-length : law.CardLength
 card-length = made.card-length
 
+pub few-blocks : law.FewBlocks
+few-blocks d m = made.few-blocks d (made.made-in-range d m)
+
 pub deals-all : law.DealsAll
 deals-all d m holder l u = made.deals-all d (made.made-in-range d m) holder l u
 

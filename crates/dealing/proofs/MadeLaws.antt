@@ -18,6 +18,7 @@ use Rattle.prime.specs.Prime.{Below}
 use Rattle.field.specs.Pieces.{Random}
 use Rattle.lists.specs.Some.{_∈_}
 use Rattle.planning.specs.Planned.{planLines, planned}
+use Rattle.planning.proofs.Laws as plans
 use Rattle.block.specs.Words.{bytesOf}
 use Rattle.block.specs.Layout.{heldAt}
 use Rattle.block.specs.Open.{opening, valueBytes, TrueBlock}
@@ -101,6 +102,10 @@ module _ (d : Deal) (holder : ℕ) where
 module _ (d : Deal) (f : InRange d) (holder : ℕ) (least : 1 ≤ holder) (most : holder ≤ d .policy .people) where
   ready : Ready (askedOf d holder) (dealPieces d) (d .secret) (d .random)
   ready = ready-with d f holder (least, most) (d .secret) (d .random) refl (f .ready .secret-in) (f .ready .random-in)
+
+  pub few-blocks : blockCount d holder ≤ 35
+  unfolding blockCount heldBy
+  few-blocks = plans.few-blocks (d .policy .people) (d .policy .required) (f .ready .few) holder least most
 
   -- ---- only the room is left to check
   pub only-room : (room : ℕ) → dealing d holder room ≡ roomSays (blockCount d holder) room

@@ -15,7 +15,7 @@ use Rattle.answer.specs.Outcome.{number}
 use Rattle.answer.specs.Checks.{Line}
 use Rattle.answer.specs.Lent.{noRoom}
 use Rattle.answer.proofs.WhichLaws.{Gives, only-one, one-of-two, place-is}
-use Rattle.planning.specs.Planned.{people, long, strangers, nobody, opens, lone, clash, wide, listLines, planLines}
+use Rattle.planning.specs.Planned.{people, long, strangers, nobody, opens, lone, clash, listLines, planLines}
 use Rattle.dealing.specs.Deal.{Deal, askedOf, dealPieces}
 use Rattle.block.specs.Deals.{badNumber, badYear}
 use Rattle.dealing.specs.Dealt.{badHolder, badWidth, badSecret, badCount, badRandom, inputLines, blockCount, dealLines, dealing}
@@ -27,7 +27,7 @@ abbrev askedLines : Deal → ℕ → List Line
 askedLines d holder = planLines (d .policy) ++ badNumber (d .number) ∷ badYear (d .year) ∷ badHolder (d .policy .people) holder ∷ []
 
 pub secret-places : SecretPlaces
-unfolding dealing dealLines planLines listLines people long strangers nobody opens lone clash wide inputLines badNumber badYear badHolder badWidth badSecret badCount badRandom noRoom some
+unfolding dealing dealLines planLines listLines people long strangers nobody opens lone clash inputLines badNumber badYear badHolder badWidth badSecret badCount badRandom noRoom some
 secret-places d holder room a b e =
     let count = badWidth (d .secret) in
     let words = badSecret (d .secret) in
@@ -40,7 +40,7 @@ secret-places d holder room a b e =
     (one-of-two (number Secret) (askedLines d holder) count words _ _ a b e refl refl)
 
 pub random-places : RandomPlaces
-unfolding dealing dealLines planLines listLines people long strangers nobody opens lone clash wide inputLines badNumber badYear badHolder badWidth badSecret badCount badRandom noRoom some
+unfolding dealing dealLines planLines listLines people long strangers nobody opens lone clash inputLines badNumber badYear badHolder badWidth badSecret badCount badRandom noRoom some
 random-places d holder room a b e =
     let count = badCount (dealPieces d - 1) (d .secret) (d .random) in
     let words = badRandom (d .random) in
@@ -51,7 +51,7 @@ random-places d holder room a b e =
     (one-of-two (number Random) (askedLines d holder ++ badWidth (d .secret) ∷ badSecret (d .secret) ∷ []) count words _ _ a b e refl refl)
 
 pub room-places : RoomPlaces
-unfolding dealing dealLines planLines listLines people long strangers nobody opens lone clash wide inputLines badNumber badYear badHolder badWidth badSecret badCount badRandom noRoom some
+unfolding dealing dealLines planLines listLines people long strangers nobody opens lone clash inputLines badNumber badYear badHolder badWidth badSecret badCount badRandom noRoom some
 room-places d holder room a b e =
     let before = planLines (d .policy) ++ inputLines (askedOf d holder) (dealPieces d - 1) (d .secret) (d .random) in
     let g = only-one (number Room) before (noRoom (512 * blockCount d holder) (blockCount d holder) room) [] (blockCount d holder) a b e refl refl .1 in

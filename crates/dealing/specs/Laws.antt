@@ -45,6 +45,10 @@ BlocksOpen = (d : Deal) → Made d → (holder j : ℕ) → 1 ≤ holder → hol
 abbrev pub CardLength : Type 0
 CardLength = (d : Deal) (holder : ℕ) → length (card d holder) ≡ 512 * blockCount d holder
 
+-- No card has over 35 blocks (SCOPE 2.2).
+abbrev pub FewBlocks : Type 0
+FewBlocks = (d : Deal) → Made d → (holder : ℕ) → 1 ≤ holder → holder ≤ d .policy .people → blockCount d holder ≤ 35
+
 -- A deal of which one card was dealt can deal every card: only the room is left to check.
 abbrev pub DealsAll : Type 0
 DealsAll = (d : Deal) → Made d → (holder : ℕ) → 1 ≤ holder → holder ≤ d .policy .people → (room : ℕ) → 512 * blockCount d holder ≤ room

@@ -1,7 +1,7 @@
 -- Demand 1, proved: each statement by its name in specs/Demand1.antt. Assumes nothing.
 use mathlib.Core.Path.{refl, sym, subst⁻¹, _∙_}
 use lib.ListN.{length}
-use Rattle.answer.proofs.WhichLaws.{refused-number}
+use Rattle.answer.proofs.WhichLaws.{refused-number, not-seven}
 use Rattle.planning.specs.Groups.{pieceCount}
 use Rattle.planning.specs.Planned.{planLines, planned, listLines}
 use Rattle.block.specs.Layout.{frontWords}
@@ -61,11 +61,14 @@ block-order pile = in-order pile (λ a. blockLines (restFrom pile a) a) (blocks 
 -- ---- the refusals of each call
 pub plan-refuses : demand.PlanRefuses
 unfolding planned
-plan-refuses p = refused-number (planLines p) (pieceCount (p .people) (p .required))
+plan-refuses p =
+    let k = pieceCount (p .people) (p .required) in
+    (refused-number (planLines p) k, not-seven (planLines p) k)
 
 pub deal-refuses : demand.DealRefuses
 unfolding dealing
-deal-refuses d holder room = refused-number (dealLines d holder room) (blockCount d holder)
+deal-refuses d holder room =
+    (refused-number (dealLines d holder room) (blockCount d holder), not-seven (dealLines d holder room) (blockCount d holder))
 
 pub join-refuses : demand.JoinRefuses
 unfolding joining

@@ -4,7 +4,7 @@ use Prim.Native.Nat.{ℕ, _-_, _*_, _%_, _≤_, _<_}
 use mathlib.Core.Path.{_≡_}
 use mathlib.Core.Bool.{true}
 use mathlib.Core.List.{List, [], _∷_, _++_, flatMap}
-use mathlib.Core.Logic.{_⊎_}
+use mathlib.Core.Logic.{_⊎_, _≢_}
 use lib.ListN.{length}
 use Rattle.lists.specs.Run.{run}
 use Rattle.lists.specs.Some.{_∈_}
@@ -15,9 +15,9 @@ use Rattle.answer.specs.Checks.{Line, numbers}
 use Rattle.answer.specs.Lent.{noRoom}
 use Rattle.answer.specs.Laws.{Passed}
 use Rattle.prime.specs.Prime.{Below}
-use Rattle.planning.specs.Groups.{groups, pieceCount}
+use Rattle.planning.specs.Groups.{pieceCount}
 use Rattle.planning.specs.Policy.{Policy}
-use Rattle.planning.specs.Planned.{people, long, strangers, nobody, opens, lone, clash, wide, planLines, planned}
+use Rattle.planning.specs.Planned.{people, long, strangers, nobody, opens, lone, clash, planLines, planned}
 use Rattle.block.specs.Layout.{frontWords}
 use Rattle.block.specs.Open.{above, torn, unread, check, header, blockLines, opening, TrueBlock}
 use Rattle.block.specs.Laws.{Refusable}
@@ -70,7 +70,7 @@ OpenEnds = (pile : List ℕ) → Ends (openLines pile) (frontWords pile) (openin
 
 -- ---- the order of SCOPE 6.3
 -- Planning looks at the number of people, at both lists' lengths, then at their sets, the required list first each time; then at each
--- required set for want of members, none and one alone; then at the two lists together, and last at how many groups there are.
+-- required set for want of members, none and one alone; and last at the two lists together.
 abbrev pub PlanOrder : Type 0
 PlanOrder = (p : Policy) → planLines p
     ≡ people (p .people)
@@ -80,7 +80,6 @@ PlanOrder = (p : Policy) → planLines p
     ∷ opens (p .required)
     ∷ lone (p .required)
     ∷ clash (p .required) (p .forbidden)
-    ∷ wide (groups (p .people) (p .required))
     ∷ []
 
 -- Dealing looks at what planning does, then at the rest of what it is asked for: of the secret and of the randomness the count before the words;
@@ -114,11 +113,16 @@ BlockOrder = (pile : List ℕ) → everyBlock pile ≡ flatMap (λ a. blockLines
 abbrev pub Refuses : {A : Type 0} → List Line → Outcome A → Type 0
 Refuses ls o = (m a b : ℕ) → o ≡ refused m a b → m ∈ numbers ls
 
-abbrev pub PlanRefuses : Type 0
-PlanRefuses = (p : Policy) → Refuses (planLines p) (planned p)
+-- 7 is not given. It was for over 70 maximal groups, which there never are (planning's FewGroups), and is the number of no kind (SevenVacant).
+abbrev pub NotSeven : {A : Type 0} → Outcome A → Type 0
+NotSeven o = (a b : ℕ) → o ≢ refused 7 a b
 
+abbrev pub PlanRefuses : Type 0
+PlanRefuses = (p : Policy) → Refuses (planLines p) (planned p) × NotSeven (planned p)
+
+-- of every deal, one of a key's words too
 abbrev pub DealRefuses : Type 0
-DealRefuses = (d : Deal) (holder room : ℕ) → Refuses (dealLines d holder room) (dealing d holder room)
+DealRefuses = (d : Deal) (holder room : ℕ) → Refuses (dealLines d holder room) (dealing d holder room) × NotSeven (dealing d holder room)
 
 abbrev pub JoinRefuses : Type 0
 JoinRefuses = (pile : List ℕ) (room : ℕ) → Refuses (joinLines pile room) (joining pile room)

@@ -6,12 +6,12 @@ use Rattle.planning.specs.Policy.{Policy}
 use Rattle.planning.specs.Planned.{planLines}
 use Rattle.holdings.specs.Holdings.{Holdings}
 use Rattle.holdings.specs.Judged.{badRows, verdict, judgeLines, judging}
-use Rattle.demands.specs.Demand1.{Ends, Refuses}
+use Rattle.demands.specs.Demand1.{Ends, Refuses, NotSeven}
 
 -- ---- in its verdict or in a refusal, by the order of SCOPE 6.3, with no other refusal. Nothing is lent that could be written to.
 abbrev pub JudgeEnds : Type 0
 JudgeEnds = (p : Policy) (l : Holdings)
-    → Ends (judgeLines p l) (verdict (p .people) (p .required) l) (judging p l) × Refuses (judgeLines p l) (judging p l)
+    → Ends (judgeLines p l) (verdict (p .people) (p .required) l) (judging p l) × Refuses (judgeLines p l) (judging p l) × NotSeven (judging p l)
 
 -- Judging looks at what planning does (PlanOrder), and then at the list.
 abbrev pub JudgeOrder : Type 0

@@ -7,6 +7,7 @@ use Rattle.holdings.proofs.RowLaws as rows
 use Rattle.holdings.proofs.VerdictLaws as verdict
 use Rattle.holdings.proofs.JudgedLaws as judged
 use Rattle.holdings.proofs.OwnLaws as ours
+use Rattle.holdings.proofs.FewestLaws as least
 use Rattle.holdings.proofs.OneLaws as one
 
 pub has-means : law.HasMeans
@@ -38,6 +39,12 @@ own-suits = ours.own-suits
 
 pub own-marks : law.OwnMarks
 own-marks = ours.own-marks
+
+pub fewest : law.Fewest
+fewest = least.fewest
+
+pub fewest-judged : law.FewestJudged
+fewest-judged = least.fewest-judged
 
 pub judged-one : law.JudgedOne
 judged-one = one.judged-one

@@ -79,6 +79,16 @@ abbrev pub OwnMarks : Type 0
 OwnMarks = (p : Policy) (i j : ℕ) → 1 ≤ i → i ≤ p .people → 1 ≤ j → j ≤ pieceCount (p .people) (p .required)
     → (mark (own p) i j ≡ 1) ↔ (holds (p .people) (p .required) i j ≡ true)
 
+-- ---- how few pieces there can be (SCOPE 2.2)
+-- A list that suits an accepted policy and needs all its pieces has as many as ours at least: whoever it is for, whatever its marks, in
+-- order or not.
+abbrev pub Fewest : Type 0
+Fewest = (p : Policy) (l : Holdings) (k : ℕ) → planned p ≡ done k → l .needed ≡ l .pieces → SuitsAll (p .people) (p .required) l → k ≤ l .pieces
+
+-- So one that judging accepts.
+abbrev pub FewestJudged : Type 0
+FewestJudged = (p : Policy) (l : Holdings) (k : ℕ) → planned p ≡ done k → l .needed ≡ l .pieces → judging p l ≡ done suits → k ≤ l .pieces
+
 -- ---- one answer
 -- Equal outcomes, equal answers: the promise leaves one possible answer.
 abbrev pub JudgedOne : Type 0

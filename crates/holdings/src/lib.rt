@@ -77,8 +77,7 @@ pub fn judge(
         let p = policyOf people (now (required .entry)) (now (forbidden .entry)) in
         ⌜ judged r ≡ judging p (listOf «list_people» pieces needed (now (marks .entry))) ⌝ }
 {
-    let plan = planning::plan(people, required, forbidden);
-    if let Answer::Refused(r) = planning::answer_of(plan) {
+    if let Answer::Refused(r) = planning::check(people, required, forbidden) {
         return Judged::Refused(r);
     }
     if wrong_rows(people, list_people, pieces, needed, marks) {

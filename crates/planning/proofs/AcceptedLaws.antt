@@ -1,19 +1,19 @@
 -- What an accepted policy has, and the rows of any plan.
 -- Assumes nothing.
 use mathlib.Core.Path.{_≡_, sym, ap, _∙_}
-use Prim.Native.Nat.{ℕ, _≤_}
+use Prim.Native.Nat.{ℕ}
 use native.Mathlib.Omega.{arith}
 use lib.ListN.{getD}
-use borrow.Author.Tests.{ltb-false}
 use Rattle.lists.proofs.ThoseLaws.{at-in}
 use Rattle.answer.specs.Outcome.{Outcome, done}
 use Rattle.answer.specs.Laws.{Passed}
-use Rattle.answer.proofs.CheckLaws.{passed, passed-append, done-passed}
+use Rattle.answer.proofs.CheckLaws.{passed-append, done-passed}
 use Rattle.planning.specs.Groups.{groups, pieceCount, rowsOf}
 use Rattle.planning.specs.Policy.{Policy, policyOf}
-use Rattle.planning.specs.Planned.{wide, listLines, planLines, planned, rowsFor, plannedRows}
+use Rattle.planning.specs.Planned.{listLines, planLines, planned, rowsFor, plannedRows}
 use Rattle.planning.specs.Laws.{AcceptedListed, SomePiece, ForbiddenFree, RowsMean, RefusedRows}
 use Rattle.planning.proofs.HoldingLaws.{some-piece, two-pieces}
+use Rattle.planning.proofs.ApartLaws.{few-rows}
 use Rattle.planning.proofs.ListedLaws.{listed}
 use Rattle.planning.proofs.PlannedLaws.{end}
 use Rattle.planning.proofs.RowLaws.{row-marks, row-past, no-marks}
@@ -33,11 +33,10 @@ accepted-listed p k e =
     listed p (passed-append (listLines p) (accepted p k e .0) .0)
 
 pub some-pieces : SomePiece
-unfolding planLines wide
 some-pieces p k e =
     let r = accepted p k e in
     let l = accepted-listed p k e in
-    let few : pieceCount (p .people) (p .required) ≤ 70 = ltb-false _ _ (passed (passed (passed-append (listLines p) (r .0) .1) .1) .0) in
+    let few = few-rows (p .people) (p .required) (l .few) in
     let one = some-piece (p .people) (p .required) (l .few) (l .known-required) (l .none-empty) in
     let two = two-pieces (p .people) (p .required) (l .few) (l .known-required) (l .none-alone) (getD (p .required) 0 0) (at-in 0 (p .required) 0 (l .some-required)) one in
     (sym (r .1), omega arith, omega arith)

@@ -14,15 +14,15 @@ use Rattle.lists.specs.Some.{some}
 use Rattle.answer.proofs.CheckLaws.{given, append-lines, passed-done}
 use Rattle.answer.proofs.WhichLaws.{Gives, only-one, place-is}
 use Rattle.planning.specs.Sets.{inside}
-use Rattle.planning.specs.Groups.{authorised, groups, pieceCount}
+use Rattle.planning.specs.Groups.{authorised, pieceCount}
 use Rattle.planning.specs.Policy.{Policy}
-use Rattle.planning.specs.Planned.{people, long, strangers, nobody, opens, lone, aroundPlace, clashPlace, clash, wide, listLines, planLines, planned}
+use Rattle.planning.specs.Planned.{people, long, strangers, nobody, opens, lone, aroundPlace, clashPlace, clash, listLines, planLines, planned}
 use Rattle.planning.specs.Laws.{Listed, Suits, Clashes, ClashFamilies, ClashPlaces}
 use Rattle.lists.proofs.Truth.{isn't, surely}
 use Rattle.lists.proofs.SomeLaws.{some-place}
 use Rattle.planning.proofs.FamilyLaws.{clash-none, authorised-suits}
 use Rattle.planning.proofs.ListedLaws.{listed}
-use Rattle.planning.proofs.PlannedLaws.{afterLists, end}
+use Rattle.planning.proofs.PlannedLaws.{end}
 
 -- ---- tests that agree have the same first place
 first-as : {t u : ℕ → Bool} {i e f : ℕ} → ((k : ℕ) → t k ≡ u k) → IsFirst t i e f → IsFirst u i e f
@@ -33,19 +33,21 @@ module _ (p : Policy) where
   -- the answer is CLASH: its line is given, with its places
   clash-speaks : (a b : ℕ) → planned p ≡ refused (number Clash) a b
       → Passed (listLines p) × Gives (clash (p .required) (p .forbidden)) (number Clash) a b
-  unfolding planned planLines listLines people long strangers nobody opens lone clash wide some
+  unfolding planned planLines listLines people long strangers nobody opens lone clash some
   clash-speaks a b e =
-      only-one (number Clash) (listLines p) (clash (p .required) (p .forbidden)) (wide (groups (p .people) (p .required)) ∷ [])
+      only-one (number Clash) (listLines p) (clash (p .required) (p .forbidden)) []
       (pieceCount (p .people) (p .required)) a b e refl refl
 
   -- past refusals 1 to 5 and 22
-  past-lists : Passed (listLines p) → planned p ≡ firstFail (afterLists p) (end p)
+  past-lists : Passed (listLines p) → planned p ≡ firstFail (clash (p .required) (p .forbidden) ∷ []) (end p)
   unfolding planned planLines
-  past-lists h = append-lines (listLines p) (afterLists p) (end p) ∙ passed-done (listLines p) (firstFail (afterLists p) (end p)) h
+  past-lists h =
+      let last = clash (p .required) (p .forbidden) ∷ [] in
+      append-lines (listLines p) last (end p) ∙ passed-done (listLines p) (firstFail last (end p)) h
 
   clash-given : Passed (listLines p) → clash (p .required) (p .forbidden) .given ≡ true → Clashes p
   unfolding clash
-  clash-given h t = (_, _, past-lists h ∙ given (clash (p .required) (p .forbidden)) (wide (groups (p .people) (p .required)) ∷ []) (end p) t)
+  clash-given h t = (_, _, past-lists h ∙ given (clash (p .required) (p .forbidden)) [] (end p) t)
 
 pub clash-places : ClashPlaces
 unfolding clash clashPlace

@@ -31,7 +31,7 @@ unfolding authorised
 authorised-required required s m = in-some (λ r. inside r s) required s m (inside-refl s)
 
 -- ---- maximal groups
-maximal-un : (n : ℕ) (required : List ℕ) (g : ℕ) → maximal n required g ≡ true → authorised required g ≡ false
+pub maximal-un : (n : ℕ) (required : List ℕ) (g : ℕ) → maximal n required g ≡ true → authorised required g ≡ false
 unfolding maximalBy
 maximal-un n required g t = not-so (authorised required g) (both (not (authorised required g)) (tight (authorised required) n g) t .0)
 
@@ -58,7 +58,7 @@ grow n required (suc d) g room h u =
 
 module _ (n : ℕ) (required : List ℕ) where
   -- ---- the groups of the pieces
-  piece-maximal : (j : ℕ) → 1 ≤ j → j ≤ pieceCount n required → (groupOf n required j < 2 ^ n) × (maximal n required (groupOf n required j) ≡ true)
+  pub piece-maximal : (j : ℕ) → 1 ≤ j → j ≤ pieceCount n required → (groupOf n required j < 2 ^ n) × (maximal n required (groupOf n required j) ≡ true)
   unfolding groupsBy
   piece-maximal j l h =
       let r = in-those (maximal n required) 0 (2 ^ n) (groupOf n required j) (at-in 0 (groups n required) (j - 1) (omega arith)) in

@@ -56,6 +56,14 @@ pub member-kept : (p j g : ℕ) → 1 ≤ p → 1 ≤ j → member p g ≡ false
 unfolding member
 member-kept p j g pos l out n = ap (λ (x : ℕ). eqb x 1) (bit-kept (p - 1) g (out-bit p g out) (j - 1) (λ e. n (omega arith)))
 
+-- it lies inside every set around the group that has the person
+pub more-inside : (p g h : ℕ) → 1 ≤ p → member p g ≡ false → member p h ≡ true → inside g h ≡ true → inside (g + worth p) h ≡ true
+more-inside p g h pos out m t =
+    inside-of (g + worth p) h (λ j l k u. elim (ℕ-discrete j p) [
+      | yes same ↦ rw same m
+      | no other ↦ inside-at g h t j l k (sym (member-kept p j g pos l out other) ∙ u)
+    ])
+
 -- ---- the sets that the code makes
 pub lacking-is : (r g : ℕ) → r < 2 ^ 16 → g < 2 ^ 16 → Lacked r g (bitAnd r (65535 - g))
 lacking-is r g small h = record { small = omega (arith, and-le-l r (65535 - g)); has = λ i l k. alike (there i l k) (back-there i l k) }

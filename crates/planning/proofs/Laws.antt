@@ -11,6 +11,7 @@ use Rattle.planning.proofs.CountLaws as count
 use Rattle.planning.proofs.ListedLaws as lists
 use Rattle.planning.proofs.GroupLaws as group
 use Rattle.planning.proofs.HoldingLaws as holding
+use Rattle.planning.proofs.ApartLaws as apart
 use Rattle.planning.proofs.PlaceLaws as place
 use Rattle.planning.proofs.ClashLaws as clash
 use Rattle.planning.proofs.AcceptedLaws as accepted
@@ -62,6 +63,15 @@ gathers = holding.gathers
 
 pub lacks : law.Lacks
 lacks = holding.lacks
+
+pub groups-apart : law.GroupsApart
+groups-apart = apart.groups-apart
+
+pub few-groups : law.FewGroups
+few-groups = apart.few-groups
+
+pub few-blocks : law.FewBlocks
+few-blocks = apart.few-blocks
 
 pub accepted-listed : law.AcceptedListed
 accepted-listed = accepted.accepted-listed

@@ -4,6 +4,7 @@ pub mod LackLaws
 pub mod LoopLaws
 pub mod GroupLaws
 pub mod HoldingLaws
+pub mod ApartLaws
 pub mod RowLaws
 pub mod ListedLaws
 pub mod PlannedLaws

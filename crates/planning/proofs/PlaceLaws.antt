@@ -14,7 +14,7 @@ use Rattle.lists.specs.Some.{some}
 use Rattle.lists.proofs.SomeLaws.{none-found}
 use Rattle.planning.specs.Sets.{stranger, oneMember}
 use Rattle.planning.specs.Policy.{Policy}
-use Rattle.planning.specs.Planned.{people, long, strangers, nobody, opens, lone, clash, wide, listLines, planLines, planned}
+use Rattle.planning.specs.Planned.{people, long, strangers, nobody, opens, lone, clash, listLines, planLines, planned}
 use Rattle.planning.specs.Laws.{LongPlaces, StrangerPlaces, OpenPlaces, LonePlaces}
 
 -- the lines before those that look into the sets
@@ -28,7 +28,7 @@ setLines p =
     ∷ nobody (p .required) ∷ []
 
 pub long-places : LongPlaces
-unfolding planned planLines listLines people long strangers nobody opens lone clash wide some
+unfolding planned planLines listLines people long strangers nobody opens lone clash some
 long-places p a b e =
     ⊎-elim
     (λ (g : Gives (long 1 (p .required)) (number LongList) a b). (inl (sym (g .a-is), ltb-true _ _ (g .given)), sym (g .b-is)))
@@ -37,7 +37,7 @@ long-places p a b e =
     (one-of-two (number LongList) (people (p .people) ∷ []) (long 1 (p .required)) (long 2 (p .forbidden)) _ _ a b e refl refl)
 
 pub stranger-places : StrangerPlaces
-unfolding planned planLines listLines people long strangers nobody opens lone clash wide some
+unfolding planned planLines listLines people long strangers nobody opens lone clash some
 stranger-places p a b e =
     let here = strangers (p .people) 1 (p .required) in
     let there = strangers (p .people) 2 (p .forbidden) in
@@ -49,13 +49,13 @@ stranger-places p a b e =
     (one-of-two (number Stranger) (lengthLines p) here there _ _ a b e refl refl)
 
 pub open-places : OpenPlaces
-unfolding planned planLines listLines people long strangers nobody opens lone clash wide some
+unfolding planned planLines listLines people long strangers nobody opens lone clash some
 open-places p a b e =
     let g = only-one (number Open) (setLines p) (opens (p .required)) _ _ a b e refl refl .1 in
     (place-is (eqb 0) (p .required) (g .given) (g .a-is), sym (g .b-is))
 
 pub lone-places : LonePlaces
-unfolding planned planLines listLines people long strangers nobody opens lone clash wide some
+unfolding planned planLines listLines people long strangers nobody opens lone clash some
 lone-places p a b e =
     let g = only-one (number Lone) (setLines p ++ opens (p .required) ∷ []) (lone (p .required)) _ _ a b e refl refl .1 in
     (place-is oneMember (p .required) (g .given) (g .a-is), sym (g .b-is))

@@ -32,17 +32,16 @@ zero-plus g = omega arith
 
 -- ---- filling the table: the groups below g with the test have their rows, and k counts them
 pub record Filling (test : ℕ → Bool) (g k : ℕ) (rows : List (List Bool)) : Type 0 where
-  pub few : k ≤ 70
   pub count : k ≡ length (those test 0 g)
   pub table : rows ≡ rowsOf (those test 0 g)
 
 pub filling-start : {test : ℕ → Bool} {rows : List (List Bool)} → rows ≡ rowsOf [] → Filling test 0 0 rows
 unfolding those
-filling-start e = record { few = zero-le; count = refl; table = e }
+filling-start e = record { count = refl; table = e }
 
 module _ {test : ℕ → Bool} {g k : ℕ} {rows : List (List Bool)} (h : Filling test g k rows) where
   pub filling-as : {k′ : ℕ} {rows′ : List (List Bool)} → k′ ≡ k → rows′ ≡ rows → Filling test g k′ rows′
-  filling-as e f = record { few = rw e (h .few); count = e ∙ h .count; table = f ∙ h .table }
+  filling-as e f = record { count = e ∙ h .count; table = f ∙ h .table }
 
   pub filling-end : (size : ℕ) → g ≡ size → (length (those test 0 size) ≡ k) × (rows ≡ rowsOf (those test 0 size))
   filling-end size e = rw (← e) (sym (h .count), h .table)
@@ -51,18 +50,17 @@ module _ {test : ℕ → Bool} {g k : ℕ} {rows : List (List Bool)} (h : Fillin
   here e = ap test (zero-plus g) ∙ e
 
   pub filling-miss : test g ≡ false → Filling test (g + 1) k rows
-  filling-miss e = record { few = h .few; count = count-miss test 0 g k (h .count) (here e); table = h .table ∙ ap rowsOf (sym (those-miss test 0 g (here e))) }
+  filling-miss e = record { count = count-miss test 0 g k (h .count) (here e); table = h .table ∙ ap rowsOf (sym (those-miss test 0 g (here e))) }
 
-  pub filling-hit : test g ≡ true → (k ≡ 70 → ⊥) → Filling test (g + 1) (k + 1) (set rows k (marks g))
+  -- a group is still to come: the table has room for it
+  pub filling-room : (size : ℕ) → g < size → test g ≡ true → length (those test 0 size) ≤ 70 → k < 70
+  filling-room size p e few = omega (arith, count-hit test 0 g k (h .count) (here e), those-more test 0 (g + 1) size (omega arith))
+
+  pub filling-hit : test g ≡ true → k < 70 → Filling test (g + 1) (k + 1) (set rows k (marks g))
   filling-hit e n = record {
-    few = omega (arith, h .few);
     count = count-hit test 0 g k (h .count) (here e);
-    table = rw (h .table, those-hit test 0 g (here e), zero-plus g) (rows-more (those test 0 g) k g (h .count) (omega (arith, h .few)));
+    table = rw (h .table, those-hit test 0 g (here e), zero-plus g) (rows-more (those test 0 g) k g (h .count) n);
   }
-
-  -- a 71st group
-  pub filling-over : (size : ℕ) → g < size → test g ≡ true → k ≡ 70 → 70 < length (those test 0 size)
-  filling-over size p e z = omega (arith, count-hit test 0 g k (h .count) (here e), those-more test 0 (g + 1) size (omega arith))
 
 -- ---- what the rows say
 row-at : (l : List ℕ) (j : ℕ) → j < length l → getD (rowsOf l) j [] ≡ marks (getD l j 0)

@@ -6,19 +6,20 @@ use mathlib.Core.Logic.{_↔_, ⊎-elim}
 use Prim.Native.Nat.{ℕ, zero, suc, _+_, _-_, _/_, _%_, _^_, _≤_, _<_, min, zero-le}
 use native.Mathlib.Nat.{le-refl, le-div-iff-mul-le, lt-of-not-le, not-suc-le-zero, le-of-suc-le-suc, mod-lt, div-one, div-eq-of-lt}
 use native.Mathlib.Decide.{decLe, ℕ-discrete}
-use native.Mathlib.Numerals.{add-one}
 use native.Mathlib.Omega.{arith}
 use lib.Dec.{eqb, lit<}
 use lib.Pow.{pow-pos, pow-mono, shr-shr}
-use lib.Bits.{bitAnd, and-step, and-shr, and-zero-r}
+use lib.Bits.{bitAnd, and-comm, and-step, and-shr, and-zero-r}
 use borrow.Author.Tests.{eq-eqb, eqb-true, eqb-false, ne-eqb, le-leb, leb-true}
+use Rattle.chains.specs.Apart.{digit}
+use Rattle.chains.proofs.TestLaws.{digit-suc}
 use Rattle.planning.specs.Sets.{worth, member, inside, stranger}
 use Rattle.lists.proofs.Truth.{never, decided, surely, or-cases, or-l, or-r, neither, not-so, so-not}
 use Rattle.lists.proofs.EachLaws.{each-at, each-of, each-fails}
 
 -- ---- binary digits: bit p is the digit worth 2 ^ p
 abbrev pub bit : ℕ → ℕ → ℕ
-bit p s = s / 2 ^ p % 2
+bit = digit
 
 pub bit-lt : (p s : ℕ) → bit p s < 2
 bit-lt p s = mod-lt (s / 2 ^ p) (lit< tt)
@@ -27,7 +28,7 @@ pub bit-zero : (s : ℕ) → bit 0 s ≡ s % 2
 bit-zero s = ap (λ (x : ℕ). x % 2) (div-one s)
 
 pub bit-suc : (p s : ℕ) → bit (suc p) s ≡ bit p (s / 2)
-bit-suc p s = ap (λ (x : ℕ). x % 2) (ap (λ (k : ℕ). s / 2 ^ k) (sym (add-one p) ∙ omega arith) ∙ sym (shr-shr s 1 p))
+bit-suc = digit-suc
 
 -- a digit past a number's end is 0
 pub bit-past : (n p s : ℕ) → s < 2 ^ n → n ≤ p → bit p s ≡ 0
@@ -151,6 +152,13 @@ inside-test a b h = ⊎-elim (λ (t : inside a b ≡ true). eq-eqb _ _ (same t) 
 
     part : bitAnd a b ≡ a → inside a b ≡ true
     part q = inside-of a b (λ i l h m. bit-member i b (omega (arith, and-inside a b q (i - 1), member-bit i a m, bit-lt (i - 1) b)))
+
+-- two sets that lie inside one another are one set
+pub inside-both : (a b : ℕ) → a < 2 ^ 16 → b < 2 ^ 16 → inside a b ≡ true → inside b a ≡ true → a ≡ b
+inside-both a b h l p q =
+    let e : bitAnd a b ≡ a = eqb-true _ _ (inside-test a b h ∙ p) in
+    let f : bitAnd b a ≡ b = eqb-true _ _ (inside-test b a l ∙ q) in
+    sym e ∙ and-comm a b ∙ f
 
 -- ---- somebody in a set has a number greater than n: a number above 0 has a digit 1
 pub some-bit : (k x : ℕ) → 0 < x → x < 2 ^ k → (p : ℕ) × (bit p x ≡ 1)

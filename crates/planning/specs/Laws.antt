@@ -3,7 +3,7 @@
 use mathlib.Core.Path.{_≡_}
 use mathlib.Core.Bool.{Bool, true, false}
 use mathlib.Core.List.{List}
-use mathlib.Core.Logic.{_↔_, _⊎_}
+use mathlib.Core.Logic.{_↔_, _⊎_, _≢_}
 use Prim.Native.Nat.{ℕ, _+_, _^_, _≤_, _<_}
 use lib.Dec.{eqb}
 use lib.ListN.{length}
@@ -12,6 +12,7 @@ use Rattle.answer.specs.Outcome.{done, refused, number, outcome}
 use Rattle.lists.specs.Places.{at}
 use Rattle.answer.specs.Laws.{Passed}
 use Rattle.lists.specs.Laws.{IsFirst}
+use Rattle.chains.specs.Apart.{most}
 use Rattle.planning.specs.declared.table.Plan.{Plan}
 use Rattle.planning.specs.Sets.{member, inside, stranger, memberCount, oneMember}
 use Rattle.lists.specs.Some.{_∈_, some}
@@ -142,6 +143,20 @@ abbrev pub Lacks : Type 0
 Lacks = (n : ℕ) (required : List ℕ) → n ≤ 8 → (g : ℕ) → g < 2 ^ n → authorised required g ≡ false
     → (j : ℕ) × (1 ≤ j) × (j ≤ pieceCount n required) × (inside g (groupOf n required j) ≡ true)
     × ((i : ℕ) → 1 ≤ i → i ≤ n → member i g ≡ true → holds n required i j ≡ false)
+
+-- ---- how many pieces there can be (SCOPE 2.2), for any required list
+-- None of the groups of the pieces lies inside another.
+abbrev pub GroupsApart : Type 0
+GroupsApart = (n : ℕ) (required : List ℕ) → n ≤ 8 → (i j : ℕ) → 1 ≤ i → i ≤ pieceCount n required → 1 ≤ j → j ≤ pieceCount n required → i ≢ j
+    → inside (groupOf n required i) (groupOf n required j) ≡ false
+
+-- So n people give no more of them than 1, 2, 3, 6, 10, 20, 35, 70, for n of 1 to 8.
+abbrev pub FewGroups : Type 0
+FewGroups = (n : ℕ) (required : List ℕ) → n ≤ 8 → pieceCount n required ≤ most n
+
+-- And nobody holds over 35 pieces.
+abbrev pub FewBlocks : Type 0
+FewBlocks = (n : ℕ) (required : List ℕ) → n ≤ 8 → (i : ℕ) → 1 ≤ i → i ≤ n → length (held n required i) ≤ 35
 
 -- ---- an accepted policy
 -- It passes refusals 1 to 5 and 22.

@@ -1,11 +1,11 @@
--- What planning answers: SCOPE 6, refusals 1 to 5, 22, 6 and 7, and the table of rows.
+-- What planning answers: SCOPE 6, refusals 1 to 5, 22 and 6, and the table of rows.
 -- Assumes nothing.
 use mathlib.Core.Bool.{Bool, _||_}
 use mathlib.Core.List.{List, [], _∷_, _++_}
 use Prim.Native.Nat.{ℕ}
 use lib.Dec.{eqb, ltb}
 use lib.ListN.{length}
-use Rattle.answer.specs.declared.Kind.the-variants.{People, LongList, Stranger, Nobody, Open, Clash, Wide, Lone}
+use Rattle.answer.specs.declared.Kind.the-variants.{People, LongList, Stranger, Nobody, Open, Clash, Lone}
 use Rattle.answer.specs.Outcome.{Outcome, done, refused}
 use Rattle.answer.specs.Checks.{Line, line, firstFail}
 use Rattle.lists.specs.Places.{firstPlace, found, at}
@@ -51,10 +51,6 @@ clash required forbidden =
     line Clash (found (clashPlace required forbidden)) (clashPlace required forbidden)
     (aroundPlace forbidden (at required (clashPlace required forbidden)))
 
--- 7 WIDE: there are over 70 maximal groups
-unfoldable pub wide : List ℕ → Line
-wide maximals = line Wide (ltb 70 (length maximals)) 0 0
-
 -- refusals 1 to 5 and 22, in their order
 unfoldable pub listLines : Policy → List Line
 listLines p =
@@ -68,9 +64,9 @@ listLines p =
     ∷ lone (p .required)
     ∷ []
 
--- 1 to 5, 22, 6 and 7, in the order of SCOPE 6.3
+-- 1 to 5, 22 and 6, in the order of SCOPE 6.3. How many maximal groups there are need not be asked: never over 70 (FewGroups)
 unfoldable pub planLines : Policy → List Line
-planLines p = listLines p ++ clash (p .required) (p .forbidden) ∷ wide (groups (p .people) (p .required)) ∷ []
+planLines p = listLines p ++ clash (p .required) (p .forbidden) ∷ []
 
 -- what planning answers: the first refusal that is given, or k
 unfoldable pub planned : Policy → Outcome ℕ

@@ -1,4 +1,4 @@
-// The maximal groups and refusal 7, by asking the required list about each group.
+// The maximal groups, by asking the required list about each group.
 use crate::sets::alone;
 use crate::sets::either;
 use crate::sets::everyone;
@@ -6,13 +6,10 @@ use crate::sets::group_count;
 use crate::sets::inside;
 use crate::sets::lacking;
 use crate::sets::marks;
-use answer::Answer;
-use answer::Kind;
 ghost use mathlib.Core.Path.{_≡_};
 ghost use mathlib.Core.List.{[]};
 ghost use Prim.Native.Nat.{_≤_};
-ghost use Rattle.planning.specs.Groups.{maximal, groups, rowsOf};
-ghost use Rattle.planning.specs.Inner.{Filled};
+ghost use Rattle.planning.specs.Groups.{maximal, groups, pieceCount, rowsOf};
 
 // The group g is maximal: no required set lies inside it, and each of the others is the one member that it lacks of some required set.
 fn maximal(required: &[u16], people: usize, g: u16) -> bool
@@ -34,24 +31,21 @@ fn maximal(required: &[u16], people: usize, g: u16) -> bool
     inside(everyone(people), found)
 }
 
-// The pieces and their rows, over a table of empty rows; refusal 7 where a 71st group comes, with empty rows again.
-pub fn fill(required: &[u16], people: usize, rows: &mut [[bool; 8]; 70]) -> Answer
+// How many pieces there are, and their rows over a table of empty rows: 70 are enough.
+pub fn fill(required: &[u16], people: usize, rows: &mut [[bool; 8]; 70]) -> usize
     requires { ⌜ (people ≤ 8) × (now rows ≡ rowsOf []) ⌝ }
-    ensures { λ r. ⌜ Filled (groups people (now (required .entry))) r (now (rows .exit)) ⌝ }
+    ensures counts { λ r. ⌜ r ≡ pieceCount people (now (required .entry)) ⌝ }
+    ensures table { λ r. ⌜ now (rows .exit) ≡ rowsOf (groups people (now (required .entry))) ⌝ }
 {
     let size = group_count(people);
     let mut k = 0;
     let mut g = 0;
     while g < size {
         if maximal(required, people, g as u16) {
-            if k == 70 {
-                *rows = [[false; 8]; 70];
-                return answer::refuse(Kind::Wide, 0, 0);
-            }
             rows[k] = marks(g as u16);
             k += 1;
         }
         g += 1;
     }
-    Answer::Done(k)
+    k
 }

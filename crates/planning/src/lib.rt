@@ -1,4 +1,4 @@
-// Planning: from a number of people and two lists of sets to pieces and holdings (SCOPE 2, refusals 1 to 7 and 22).
+// Planning: from a number of people and two lists of sets to pieces and holdings (SCOPE 2, refusals 1 to 6 and 22).
 mod checks;
 mod groups;
 mod sets;
@@ -14,10 +14,21 @@ pub use table::answer_of;
 pub use table::rows_of;
 ghost use mathlib.Core.Path.{_≡_};
 ghost use mathlib.Core.List.{[]};
-ghost use Rattle.answer.specs.Outcome.{outcome};
+ghost use Rattle.answer.specs.Outcome.{outcome, done};
+ghost use Rattle.answer.specs.Checks.{firstFail};
 ghost use Rattle.planning.specs.Groups.{rowsOf};
 ghost use Rattle.planning.specs.Policy.{policyOf};
-ghost use Rattle.planning.specs.Planned.{planned, plannedRows};
+ghost use Rattle.planning.specs.Planned.{planLines, planned, plannedRows};
+
+// Planning's refusals alone.
+pub fn check(people: usize, required: &[u16], forbidden: &[u16]) -> Answer
+    ensures { λ r. ⌜ outcome r ≡ firstFail (planLines (policyOf people (now (required .entry)) (now (forbidden .entry)))) (done 0) ⌝ }
+{
+    if let Answer::Refused(r) = checks::check_lists(people, required, forbidden) {
+        return Answer::Refused(r);
+    }
+    checks::check_clash(required, forbidden)
+}
 
 // Planning into a lent table of empty rows: k with the rows of the groups, or a refusal, which leaves the table as it was.
 pub fn plan_into(
@@ -30,13 +41,10 @@ pub fn plan_into(
     ensures says { λ r. ⌜ outcome r ≡ planned (policyOf people (now (required .entry)) (now (forbidden .entry))) ⌝ }
     ensures table { λ _. ⌜ now (rows .exit) ≡ plannedRows (policyOf people (now (required .entry)) (now (forbidden .entry))) ⌝ }
 {
-    if let Answer::Refused(r) = checks::check_lists(people, required, forbidden) {
+    if let Answer::Refused(r) = check(people, required, forbidden) {
         return Answer::Refused(r);
     }
-    if let Answer::Refused(r) = checks::check_clash(required, forbidden) {
-        return Answer::Refused(r);
-    }
-    groups::fill(required, people, rows)
+    Answer::Done(groups::fill(required, people, rows))
 }
 
 // Planning: k or the refusal, and the table of rows.

@@ -103,7 +103,6 @@ number-few kind.Stranger = omega arith
 number-few kind.Nobody = omega arith
 number-few kind.Open = omega arith
 number-few kind.Clash = omega arith
-number-few kind.Wide = omega arith
 number-few kind.Deal = omega arith
 number-few kind.Holder = omega arith
 number-few kind.Secret = omega arith

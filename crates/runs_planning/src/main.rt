@@ -1,6 +1,8 @@
 // Plans the larger cases of SCOPE 8.2, the sources' examples and each refusal, and prints what comes out: for an accepted policy the
-// number of pieces, the group of each and how many pieces each person holds; for another its refusal. WIDE has no case: 8 people never have
-// over 70 maximal groups.
+// number of pieces, the group of each and how many pieces each person holds; for another its refusal. And any half of the people and one
+// more, which gives as many maximal groups as so many people can have.
+mod most;
+
 use answer::Answer;
 use answer::Refusal;
 ghost use Prim.Native.Nat.{_≤_};
@@ -44,17 +46,22 @@ fn held(k: usize, i: usize, rows: [[bool; 8]; 70]) -> usize {
     count
 }
 
+// How many pieces each person holds.
+fn everybody(people: usize, k: usize, rows: [[bool; 8]; 70]) {
+    for i in 0..8 {
+        if i < people {
+            number(held(k, i, rows));
+        }
+    }
+}
+
 fn accepted(people: usize, k: usize, rows: [[bool; 8]; 70]) {
     io::write_all(1, b" pieces");
     number(k);
     io::write_all(1, b"\n missing");
     groups(k, rows);
     io::write_all(1, b"\n held");
-    for i in 0..8 {
-        if i < people {
-            number(held(k, i, rows));
-        }
-    }
+    everybody(people, k, rows);
 }
 
 fn refused(r: Refusal) {
@@ -236,6 +243,7 @@ fn clashes() {
 
 fn main() {
     five_of_eight();
+    most::most();
     source_003();
     source_001();
     long_lists();

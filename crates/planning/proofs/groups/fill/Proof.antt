@@ -1,15 +1,16 @@
 -- `planning::groups::fill` meets its contract: the maximal groups below g have their rows, and k counts them.
 -- Assumes nothing.
-use mathlib.Core.Path.{_≡_, refl, sym, ap, _∙_}
+use mathlib.Core.Path.{_≡_, sym, ap, _∙_}
+use mathlib.Core.Bool.{true}
 use mathlib.Core.Logic.{⊎-elim}
-use Prim.Native.Nat.{_-_, _^_, _≤_}
+use Prim.Native.Nat.{_-_, _^_, _≤_, _<_}
 use native.Mathlib.Omega.{arith}
 use lib.ListN.{set}
 use borrow.Author.Needs.{needs}
 use Rattle.planning.specs.Groups.{maximal, groupsBy}
 use Rattle.planning.proofs.GroupLaws.{size-le}
-use Rattle.planning.proofs.RowLaws.{empty-rows, Filling, filling-start, filling-miss, filling-hit, filling-as, filling-over, filling-end}
-use Rattle.planning.proofs.PlannedLaws.{filled-over, filled-fits}
+use Rattle.planning.proofs.ApartLaws.{few-rows}
+use Rattle.planning.proofs.RowLaws.{Filling, filling-start, filling-miss, filling-hit, filling-as, filling-room, filling-end}
 use Rattle.planning.proofs.groups.fill.Statement.{statement}
 use Rattle.planning.proofs.groups.fill.Tie as tie
 
@@ -25,22 +26,22 @@ loop-holds c =
     let p = c .before .before .pre in
     (c .group-count .ensures, size-le _ _ (p .0) (c .group-count .ensures), search needs, filling-start (p .1))
 
-returns : tie.Need-returns Inv-loop μ-loop
+-- a maximal group comes: the table has room for its row
+room : (c : tie.After-maximal Inv-loop μ-loop) → c .maximal .result ≡ true → c .before .before .loop .k < 70
 unfolding groupsBy
-returns c =
-    let t = c .before .before in
-    let m = t .before .before in
-    let l = m .before .before .loop in
-    filled-over (filling-over (l .inv .3) _ (omega arith) (sym (m .maximal .ensures) ∙ t .before .if1 .taken) (t .if2 .taken)) (c .refuse .ensures) empty-rows
+room c t =
+    let l = c .before .before .loop in
+    let s = c .before .before .before .before .before in
+    filling-room (l .inv .3) (2 ^ s .args .people) (omega arith) (sym (c .maximal .ensures) ∙ t) (few-rows _ _ (s .pre .0))
 
-mul-t15 : tie.Need-mul-t15 Inv-loop μ-loop
-mul-t15 c = omega (arith, c .before .before .before .before .before .loop .inv .3 .few)
+mul-t12 : tie.Need-mul-t12 Inv-loop μ-loop
+mul-t12 c = omega (arith, room (c .before .before) (c .before .if1 .taken))
 
 element-set-from-rows : tie.Need-element-set-from-rows Inv-loop μ-loop
-element-set-from-rows c = omega (arith, c .before .before .before .before .before .loop .inv .3 .few)
+element-set-from-rows c = omega (arith, room (c .before .before) (c .before .if1 .taken))
 
 add-k : tie.Need-add-k Inv-loop μ-loop
-add-k c = omega (arith, c .before .before .before .before .before .loop .inv .3 .few)
+add-k c = omega (arith, room (c .before .before) (c .before .if1 .taken))
 
 loop-again : tie.Need-loop-again Inv-loop μ-loop
 loop-again c =
@@ -50,16 +51,16 @@ loop-again c =
       search needs,
       search needs,
       search needs,
-      ⊎-elim (λ w. filling-as (filling-hit h (m ∙ w .0 .taken) (w .1 .left)) (w .4) (w .3 ∙ ap (set (l .rows) (l .k)) (w .2 .ensures)))
+      ⊎-elim (λ w. filling-as (filling-hit h (m ∙ w .0 .taken) (room (c .before) (w .0 .taken))) (w .3) (w .2 ∙ ap (set (l .rows) (l .k)) (w .1 .ensures)))
           (λ w. filling-as (filling-miss h (m ∙ w .0 .left)) (w .2) (w .1)) (c .if1 .came),
     )
 
-returns-2 : tie.Need-returns-2 Inv-loop μ-loop
+returns : tie.Need-returns Inv-loop μ-loop
 unfolding groupsBy
-returns-2 c =
+returns c =
     let l = c .before .loop in
     let e = filling-end (l .inv .3) (2 ^ c .before .before .before .before .args .people) (omega arith) in
-    filled-fits (l .k) (sym (e .0)) (l .inv .3 .few) refl (e .1)
+    (sym (e .0), e .1)
 
 pub fill-spec : {M : Type 1} → statement M
 fill-spec =
@@ -71,14 +72,12 @@ fill-spec =
     loop-holds
     (λ c. search needs)
     (λ c κs. search needs)
-    (λ c κs. search needs)
-    returns
     (λ c. search needs)
     (λ c κs. search needs)
-    mul-t15
+    mul-t12
     element-set-from-rows
     add-k
     (λ c. search needs)
     (λ c. search needs)
     loop-again
-    returns-2)
+    returns)
