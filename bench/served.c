@@ -77,6 +77,9 @@ static titmeadow_answer answer(uint64_t call, const uint64_t *n, const struct li
         return titmeadow_salvage((uint8_t *)out.at + 2 * n[0], out.size - 2 * n[0], out.at, n[0]);
     case 11:
         return titmeadow_add(l[0].at, l[0].size, l[1].at, l[1].size, n[0], n[1], out.at, out.size);
+    case 16:
+        return titmeadow_deal_by_sets(n[0], l[0].at, l[0].size / 2, l[1].at, l[1].size / 2, n[1], n[2], n[3], l[2].at, l[2].size / 2, l[3].at,
+                                      l[3].size / 2, out.at, out.size);
     case 20:
         return titmeadow_judge(n[0], l[0].at, l[0].size / 2, l[1].at, l[1].size / 2, n[1], n[2], n[3], l[2].at, l[2].size);
     }

@@ -23,10 +23,15 @@
 #define TITMEADOW_WORD_MOST 32748 /* a word of a secret, of the randomness or of a block, a deal number, and a year */
 #define TITMEADOW_SECRET_MOST 16  /* w, the words of a secret */
 #define TITMEADOW_RANDOM_MOST (TITMEADOW_SECRET_MOST * (TITMEADOW_PIECES_MOST - 1)) /* w(k - 1) */
+#define TITMEADOW_SETS_RANDOM_MOST \
+    (TITMEADOW_SECRET_MOST * TITMEADOW_PIECES_MOST * (TITMEADOW_PEOPLE_MOST - 1)) /* by sets: 70 of 8 members would take so many, and none do */
 #define TITMEADOW_BLOCK_BYTES 512
 #define TITMEADOW_BLOCK_WORDS 256 /* two bytes each, the high one in front */
 #define TITMEADOW_HEAD_WORDS 7    /* mark, deal number, holder, people, k, w, piece */
+#define TITMEADOW_MARK 1987       /* word 1 of a block that titmeadow_deal wrote, or titmeadow_deal_key */
+#define TITMEADOW_SETS_MARK 1988  /* and of one that titmeadow_deal_by_sets wrote */
 #define TITMEADOW_YEAR_WORD 24    /* the word of a block, from 1, that has the year of the deal: its bytes 47 and 48, from 1, the high one in front */
+#define TITMEADOW_SET_WORD 25     /* and the word that has the place of the block's set, 1 to 70, where it was dealt by sets; else it is 0 */
 #define TITMEADOW_CARD_MOST 35    /* blocks on a card */
 #define TITMEADOW_PILE_MOST 560   /* blocks in a pile */
 #define TITMEADOW_SLOTS 70        /* slots of a desk, for the pieces of both clients */
@@ -62,16 +67,16 @@ enum titmeadow_refusal {
     TITMEADOW_DEAL = 8,      /* the deal number is 0 or exceeds 32748; number and year are both those of one of the blocks that are added */
     TITMEADOW_HOLDER = 9,    /* the holder is 0 or exceeds the number of people */
     TITMEADOW_SECRET = 10,   /* no words, or more than 16, or a key not of 16 bytes (a = 0); else some word exceeds 32748; a: the first such word */
-    TITMEADOW_RANDOM = 11,   /* not w(k - 1) words (a = 0); else some word exceeds 32748; a: the first such word */
+    TITMEADOW_RANDOM = 11,   /* not w(k - 1) words, or by sets not as many for all of them (a = 0); else some word exceeds 32748; a: the first such word */
     TITMEADOW_ROOM = 12,     /* the lent buffer is too short; a: the blocks or words of the result, of a key its 16 bytes, and in salvaging the blocks of the pile */
     TITMEADOW_TORN = 13,     /* bytes are left over after the whole blocks; a block that is added or handed in has not 512 bytes */
     TITMEADOW_LONG = 14,     /* there are more than 560 blocks */
     TITMEADOW_UNREAD = 15,   /* some word of a block exceeds 32748; a: the block, b: the first such word */
     TITMEADOW_CHECK = 16,    /* word 256 of a block is not its check; a: the block */
-    TITMEADOW_HEADER = 17,   /* some word from 1 to 255 of a block is not as the layout has it; a: the block, b: the first such word; titmeadow_desk_open: a = 0 */
-    TITMEADOW_MIXED = 18,    /* blocks differ in word 2, 4, 5, 6 or 24; a: the first outside the largest heap of blocks alike in these, of equal heaps the earliest; at a desk 1 */
-    TITMEADOW_CONFLICT = 19, /* a block has an earlier one's piece, and other values; a: the first such block, b: the first such earlier one; at a desk 1, 0 */
-    TITMEADOW_SHORT = 20,    /* of the pieces 1 to k not all are there; a: how many different ones are, b: k, and in a pile of no blocks 0 */
+    TITMEADOW_HEADER = 17,   /* some word from 1 to 255 of a block is not as the layout has it; a: the block, b: the first such word; titmeadow_desk_open: a = 0; a block by sets that is added or handed in: b = 1 */
+    TITMEADOW_MIXED = 18,    /* blocks differ in word 1, 2, 4, 5, 6 or 24, by sets not in word 5; a: the first outside the largest heap of blocks alike in these, of equal heaps the earliest; at a desk 1 */
+    TITMEADOW_CONFLICT = 19, /* a block has an earlier one's piece, and other values; by sets an earlier one's set, and another k, or its piece and other values; a: the first such block, b: the first such earlier one; at a desk 1, 0 */
+    TITMEADOW_SHORT = 20,    /* of the pieces 1 to k not all are there; a: how many different ones are, b: k, and in a pile of no blocks 0; by sets no set has all its pieces there, and both are 0 */
     TITMEADOW_TEXT = 21,     /* the text of a policy cannot be read (the listing program only); a: the first bad line */
     TITMEADOW_LONE = 22,     /* a required set has a single member; a: the first such set */
     TITMEADOW_NOTKEY = 23,   /* there are not ten words (a = 0); else the first exceeds 2047 or another 8191; a: the first such word */
@@ -117,8 +122,21 @@ titmeadow_answer titmeadow_deal(size_t people, const uint16_t *required, size_t 
                                 size_t forbidden_count, size_t deal, size_t year, size_t holder, const uint16_t *secret, size_t words,
                                 const uint16_t *random, size_t random_count, uint8_t *card, size_t room);
 
+/* Dealing one holder's card by sets: each minimal required set, one with no other required set inside it, is a deal of its own of the same secret, among its
+ * members. Sets come by rising number, each once; in set s, the s-th, the j-th member by rising number holds piece j, and nobody else does. A card has a
+ * block for each set that the holder is in, in the order of the sets, with TITMEADOW_SETS_MARK in word 1, the members of the set in word 5 and s in word 25; a
+ * holder in no set has a card without a block. All is as titmeadow_deal has it but for random: of each set it has w(members - 1) words, those of set 1 in
+ * front and, of each set, those of the secret's word 1 in front; added up over the sets that is their number, not one more or less.
+ * For a policy of few sets and many pieces these cards are shorter. There are 70 sets at most, and 35 blocks on a card.
+ * titmeadow_join and its fellows take such cards, those of one deal by themselves; titmeadow_add and the desk refuse them.
+ * room counts bytes. Refuses 1 to 5, 22, 6, 8, 25, 9 to 12, in this order. */
+titmeadow_answer titmeadow_deal_by_sets(size_t people, const uint16_t *required, size_t required_count, const uint16_t *forbidden,
+                                        size_t forbidden_count, size_t deal, size_t year, size_t holder, const uint16_t *secret, size_t words,
+                                        const uint16_t *random, size_t random_count, uint8_t *card, size_t room);
+
 /* Joining a pile of blocks from cards, in any order and repeated at will: the result is w, the words of the secret, which are written
- * to the front of secret. room counts words. Refuses 13, 14; for one block after the other 15, 16, 17; last 18, 19, 20, 12. */
+ * to the front of secret. Of cards by sets it takes all pieces of one set, and where several sets are whole, that with the lowest place is joined;
+ * cards of the two kinds are of two deals. room counts words. Refuses 13, 14; for one block after the other 15, 16, 17; last 18, 19, 20, 12. */
 titmeadow_answer titmeadow_join(const uint8_t *pile, size_t length, uint16_t *secret, size_t room);
 
 /* The same by differences alone, for a unit without room for the modular inverse: on every pile and every secret lent, the answer and the
@@ -127,7 +145,7 @@ titmeadow_answer titmeadow_join(const uint8_t *pile, size_t length, uint16_t *se
 titmeadow_answer titmeadow_join_by_differences(const uint8_t *pile, size_t length, uint16_t *secret, size_t room);
 
 /* Opening the first block of a pile: the result is 7, and its words 1 to 7 are written to the seven places of head. The year is none of them:
- * it is bytes 47 and 48 of the block, counted from 1 (TITMEADOW_YEAR_WORD).
+ * it is bytes 47 and 48 of the block, counted from 1 (TITMEADOW_YEAR_WORD); and so is the place of a set: bytes 49 and 50 (TITMEADOW_SET_WORD).
  * Refuses 13 (fewer than 512 bytes; a = 0, since there is no block); 15, 16, 17, each with a = 1. */
 titmeadow_answer titmeadow_open(const uint8_t *pile, size_t length, uint16_t head[TITMEADOW_PLACES(TITMEADOW_HEAD_WORDS)]);
 
@@ -165,7 +183,8 @@ titmeadow_answer titmeadow_join_key(const uint8_t *pile, size_t length, uint8_t 
 
 /* Adding two blocks into one, under a new deal number and year: the blocks are alike in words 3 to 7 (holder, people, k, w, piece), and so is the
  * sum; its values are theirs added one by one mod 32749. The result is 1, a number of blocks, and the sum is written to the first 512
- * bytes of block. room counts bytes. The two may be of one deal, and may be the same block.
+ * bytes of block. room counts bytes. The two may be of one deal, and may be the same block. Cards by sets are not added: such a block, once it could be
+ * read and its check is right, is HEADER, word 1.
  * Adding, block for block and all under one new number and year, the cards of a deal of the same policy whose secret is w zeros renews the cards
  * of a deal: the new cards join to the same secret, and with a card of either old deal they do not join.
  * Refuses, of block one and then of block two, 13 (not 512 bytes, fewer or more; a = 0) and 15, 16, 17 (a: 1 or 2); then 24; 8; 25; 8 once
@@ -202,8 +221,8 @@ typedef struct {
 titmeadow_answer titmeadow_desk_open(titmeadow_desk *desk, size_t client, size_t deal, size_t people, size_t pieces, size_t words, size_t year);
 
 /* Handing in one block, of any holder, again or for the first time: its piece is kept, and the result is how many different pieces of the client
- * are. Refuses 26; 29; 13 (not 512 bytes, fewer or more; a = 0); 15, 16, 17; 18, for a block that differs from the opening; 19, for other values
- * of a piece that is kept; each of these five with a = 1, and of the last two b = 0. */
+ * are. Cards by sets are not taken: HEADER, word 1, as in an addition. Refuses 26; 29; 13 (not 512 bytes, fewer or more; a = 0); 15, 16, 17; 18, for a
+ * block that differs from the opening; 19, for other values of a piece that is kept; each of these five with a = 1, and of the last two b = 0. */
 titmeadow_answer titmeadow_desk_hand_in(titmeadow_desk *desk, size_t client, const uint8_t *block, size_t length);
 
 /* Asking: the pieces are joined, and stay. The result is w, and the words are written to the front of secret. room counts words.

@@ -1,5 +1,5 @@
 /* Every exported call with every refusal that it can give: its number, both places, and all that was lent to be written, compared whole;
- * results and NULL for a count of 0 as well. tests/cards.c, holdings.c, piles.c, salvage.c, keys.c, adding.c, renewal.c and desk.c have the
+ * results and NULL for a count of 0 as well. tests/cards.c, holdings.c, sets.c, piles.c, salvage.c, keys.c, adding.c, renewal.c and desk.c have the
  * cases; what they expect is worked out from docs/SCOPE.md, by hand where no rule is written here. It prints for each call the numbers that
  * were met, 0 for a result; its status is 0 only where all was as expected, and each call was seen to give all that it can. tools/firmware
  * builds it, runs it and holds what it prints to the header and to the archive. */
@@ -16,6 +16,7 @@ static const struct {
     [PLAN] = {"titmeadow_plan", {1, 2, 3, 4, 5, 6, 22}},
     [JUDGE] = {"titmeadow_judge", {1, 2, 3, 4, 5, 6, 22, 30}},
     [DEAL] = {"titmeadow_deal", {1, 2, 3, 4, 5, 6, 8, 9, 10, 11, 12, 22, 25}},
+    [DEAL_BY_SETS] = {"titmeadow_deal_by_sets", {1, 2, 3, 4, 5, 6, 8, 9, 10, 11, 12, 22, 25}},
     [JOIN] = {"titmeadow_join", {12, 13, 14, 15, 16, 17, 18, 19, 20}},
     [JOIN_BY_DIFFERENCES] = {"titmeadow_join_by_differences", {12, 13, 14, 15, 16, 17, 18, 19, 20}},
     [OPEN] = {"titmeadow_open", {13, 15, 16, 17}},
@@ -84,7 +85,7 @@ void put_check(uint8_t *block) {
 }
 
 void put_block(uint8_t *block, size_t deal, size_t holder, size_t n, size_t k, size_t w, size_t piece, const uint16_t *values) {
-    const size_t head[TITMEADOW_HEAD_WORDS] = {1987, deal, holder, n, k, w, piece};
+    const size_t head[TITMEADOW_HEAD_WORDS] = {TITMEADOW_MARK, deal, holder, n, k, w, piece};
     memset(block, 0, BLOCK);
     for (size_t i = 1; i <= TITMEADOW_HEAD_WORDS; i++)
         put(block, i, head[i - 1]);
@@ -146,6 +147,7 @@ int main(void) {
         paint = paints[i];
         cards();
         holdings();
+        sets();
         piles();
         salvage();
         keys();

@@ -14,13 +14,14 @@ enum { BLOCK = TITMEADOW_BLOCK_BYTES };
 
 /* the exported calls; tests/calls.c has the refusals that each can give */
 enum call {
-    PLAN, JUDGE, DEAL, JOIN, JOIN_BY_DIFFERENCES, OPEN, SALVAGE, PACK, UNPACK, DEAL_KEY, JOIN_KEY, ADD, DESK_OPEN, DESK_HAND_IN, DESK_ASK, DESK_CLOSE,
+    PLAN, JUDGE, DEAL, DEAL_BY_SETS, JOIN, JOIN_BY_DIFFERENCES, OPEN, SALVAGE, PACK, UNPACK, DEAL_KEY, JOIN_KEY, ADD, DESK_OPEN, DESK_HAND_IN, DESK_ASK, DESK_CLOSE,
     CALLS
 };
 
-/* The cases: planning and dealing; judging; joining and opening; salvaging; keys; adding; cards that are renewed; a desk. */
+/* The cases: planning and dealing; judging; dealing by sets, and piles of such cards; joining and opening; salvaging; keys; adding; cards that are renewed; a desk. */
 void cards(void);
 void holdings(void);
+void sets(void);
 void piles(void);
 void salvage(void);
 void keys(void);

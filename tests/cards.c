@@ -68,12 +68,16 @@ static titmeadow_answer deal(const struct policy *p, size_t number, size_t holde
     return deal_in(0, p, number, holder, secret, words, random, random_count, room);
 }
 
-/* Planning; dealing and judging ask the policy first, here with nothing else that is right, neither the year nor the list. */
+/* Planning; dealing, by either scheme, and judging ask the policy first, here with nothing else that is right, neither the year nor the list. */
 static void planning(void) {
     for (size_t i = 0; i < COUNT(bad_policies); i++) {
         const struct policy p = bad_policies[i].policy;
         is(PLAN, bad_policies[i].what, plan(p, lend()), bad_policies[i].answer, NONE);
         is(DEAL, bad_policies[i].what, deal_in(SIZE_MAX, &p, 0, 0, NONE, NONE, BLOCK), bad_policies[i].answer, NONE);
+        is(DEAL_BY_SETS, bad_policies[i].what,
+           titmeadow_deal_by_sets(p.people, p.required, p.required_count, p.forbidden, p.forbidden_count, 0, SIZE_MAX, 0, NONE, NONE,
+                                  (uint8_t *)lend(), BLOCK),
+           bad_policies[i].answer, NONE);
         lend();
         is(JUDGE, bad_policies[i].what,
            titmeadow_judge(p.people, p.required, p.required_count, p.forbidden, p.forbidden_count, p.people + 1, 0, 1, NONE),

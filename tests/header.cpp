@@ -11,6 +11,7 @@ int main() {
     bool good = titmeadow_plan(4, required, 3, nullptr, 0, groups).a == 3;
     good &= titmeadow_judge(4, required, 3, nullptr, 0, 4, 3, 3, nullptr, 0).number == TITMEADOW_ROWS;
     good &= titmeadow_deal(4, required, 3, nullptr, 0, 7, 2026, 4, word, 1, randomness, 2, card, sizeof card).a == 1;
+    good &= titmeadow_deal_by_sets(4, required, 3, nullptr, 0, 7, 2026, 4, word, 1, randomness, 2, card, sizeof card).number == TITMEADOW_RANDOM;
     good &= titmeadow_pack(key, sizeof key, words).a == TITMEADOW_KEY_WORDS;
     good &= titmeadow_unpack(words, TITMEADOW_KEY_WORDS, key, sizeof key).a == TITMEADOW_KEY_BYTES;
     good &= titmeadow_deal_key(4, required, 3, nullptr, 0, 7, 2026, 4, key, sizeof key, nullptr, 0, card, sizeof card).number == TITMEADOW_RANDOM;

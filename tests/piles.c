@@ -54,7 +54,8 @@ static const struct {
     {"another check", 256, 12235, LEFT, TITMEADOW_CHECK, 0},
     {"another value", 8, 1273, LEFT, TITMEADOW_CHECK, 0},
     {"another mark", 1, 1988, LEFT, TITMEADOW_CHECK, 0},
-    {"mark 1988", 1, 1988, ANEW, TITMEADOW_HEADER, 1},
+    {"mark 1986", 1, 1986, ANEW, TITMEADOW_HEADER, 1},
+    {"mark 1988, and no set", 1, TITMEADOW_SETS_MARK, ANEW, TITMEADOW_HEADER, 25},
     {"deal 0", 2, 0, ANEW, TITMEADOW_HEADER, 2},
     {"holder 0", 3, 0, ANEW, TITMEADOW_HEADER, 3},
     {"holder 9", 3, 9, ANEW, TITMEADOW_HEADER, 3},
@@ -98,7 +99,7 @@ static void blocks(void) {
     opened("no bytes", 0, torn, NULL);
     opened("a byte too few", BLOCK - 1, torn, NULL);
     LAY(three[1], unread);
-    const uint16_t head[TITMEADOW_HEAD_WORDS] = {1987, 7, 2, 4, 3, 1, 2};
+    const uint16_t head[TITMEADOW_HEAD_WORDS] = {TITMEADOW_MARK, 7, 2, 4, 3, 1, 2};
     opened("one block", BLOCK, done(TITMEADOW_HEAD_WORDS), head);
     opened("a block, and a byte behind it", BLOCK + 1, done(TITMEADOW_HEAD_WORDS), head);
     changed(bad, three[1], 8, TITMEADOW_WORD_MOST, ANEW);

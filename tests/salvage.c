@@ -70,7 +70,7 @@ static const struct {
     {"another value, and word 25 is lost", 8, 1273, 25, 32767},
     {"another value, and word 255 is lost", 8, 1273, 255, 32767},
     /* whatever the value comes to, it is no block of ours */
-    {"mark 1988, and the value is lost", 1, 1988, 8, 32767},
+    {"mark 1988 without a set, and the value is lost", 1, TITMEADOW_SETS_MARK, 8, 32767},
     {"deal 0, and the check is lost", 2, 0, 256, 32767},
     {"a word behind the value, and the value is lost", 9, 1, 8, 32767},
 };

@@ -8,22 +8,28 @@
 
 static uint8_t stack[1 << 20] __attribute__((aligned(4096)));
 static uint8_t pile[560 * 512], card[35 * 512], few[70 * 512];
-static uint8_t key_pile[560 * 512], key[16];
-static size_t key_piled;
-static uint16_t required[256], groups[70], secret[16], words[16], randomness[16 * 69], head[7];
+static uint8_t key_pile[560 * 512], key[16], sets_pile[560 * 512];
+static size_t key_piled, sets_piled;
+static uint16_t required[256], groups[70], secret[16], words[16], randomness[TITMEADOW_SETS_RANDOM_MOST], head[7];
 static uint16_t list[2 * 560];
 static titmeadow_desk desk, few_desk, other_desk; /* client 1 has all pieces of `pile`; of `few`; nobody has any */
 static uint8_t marks[8 * 70];
 static size_t sets, piled, fewer;
 static volatile size_t sink;
-/* a policy, and how many pieces it has */
+/* a policy, how many pieces it has, and how many coefficients for a word by sets */
 static uint16_t need[257], bar[257];
-static size_t people, needs, bars, pieces;
+static size_t people, needs, bars, pieces, coefficients;
+enum { ANY_FIVE = 56 * 4 }; /* coefficients of any five of eight, by sets */
 
 static void nothing(void) { sink = 1; }
 static void plan(void) { sink = titmeadow_plan(8, required, sets, required, 0, groups).a; }
 static void judge(void) { sink = titmeadow_judge(8, required, sets, required, 0, 8, 70, 70, marks, sizeof marks).a; }
 static void deal(void) { sink = titmeadow_deal(8, required, sets, required, 0, 7, 2026, 3, secret, 16, randomness, 16 * 69, card, sizeof card).a; }
+static void deal_by_sets(void) {
+    sink = titmeadow_deal_by_sets(8, required, sets, required, 0, 7, 2026, 3, secret, 16, randomness, 16 * ANY_FIVE, card, sizeof card).a;
+}
+static void join_sets(void) { sink = titmeadow_join(sets_pile, sets_piled, words, 16).a; }
+static void join_sets_by_differences(void) { sink = titmeadow_join_by_differences(sets_pile, sets_piled, words, 16).a; }
 static void join(void) { sink = titmeadow_join(pile, piled, words, 16).a; }
 static void join_by_differences(void) { sink = titmeadow_join_by_differences(pile, piled, words, 16).a; }
 static void join_few(void) { sink = titmeadow_join(few, fewer, words, 16).number; }
@@ -55,6 +61,9 @@ static void judge_lists(void) {
 }
 static void plan_lists(void) { sink = titmeadow_plan(people, need, needs, bar, bars, groups).a; }
 static void deal_lists(void) { sink = titmeadow_deal(people, need, needs, bar, bars, 7, 2026, 1, secret, 16, randomness, 16 * (pieces - 1), card, sizeof card).a; }
+static void deal_by_sets_lists(void) {
+    sink = titmeadow_deal_by_sets(people, need, needs, bar, bars, 7, 2026, 1, secret, 16, randomness, 16 * coefficients, card, sizeof card).a;
+}
 static void deal_key_lists(void) {
     sink = titmeadow_deal_key(people, need, needs, bar, bars, 7, 2026, 1, key, 16, randomness, 10 * (pieces - 1), card, sizeof card).a;
 }
@@ -132,12 +141,27 @@ static void mark(size_t n, size_t k) {
 /* the least and the most that planning, judging and dealing take on the policy that is laid out, and on all before it */
 static struct { const char *name; void (*f)(void); size_t least, most; } by_lists[] = {
     {"titmeadow_plan", plan_lists, SIZE_MAX, 0}, {"titmeadow_judge", judge_lists, SIZE_MAX, 0}, {"titmeadow_deal", deal_lists, SIZE_MAX, 0},
-    {"titmeadow_deal_key", deal_key_lists, SIZE_MAX, 0}};
+    {"titmeadow_deal_by_sets", deal_by_sets_lists, SIZE_MAX, 0}, {"titmeadow_deal_key", deal_key_lists, SIZE_MAX, 0}};
 static size_t policies, accepted;
+
+/* members less one, added over the sets of the list that stand there for the first time and have no other one inside them */
+static size_t by_sets(void) {
+    size_t sum = 0;
+    for (size_t i = 0; i < needs; i++) {
+        int counts = 1;
+        for (size_t j = 0; j < needs; j++)
+            counts &= need[j] == need[i] ? j >= i : (need[j] & ~need[i]) != 0;
+        sum += counts ? (size_t)__builtin_popcount(need[i]) - 1 : 0;
+    }
+    return sum;
+}
 
 static void take(size_t base) {
     titmeadow_answer said = titmeadow_plan(people, need, needs, bar, bars, groups);
     pieces = said.number == 0 ? said.a : 1;
+    coefficients = said.number == 0 ? by_sets() : 0;
+    if (said.number == 0 && titmeadow_deal_by_sets(people, need, needs, bar, bars, 7, 2026, 1, secret, 16, randomness, 16 * coefficients, card, sizeof card).number != 0)
+        printf("a policy that was accepted was not dealt by sets\n");
     accepted += said.number == 0;
     policies++;
     mark(people, pieces);
@@ -189,10 +213,14 @@ int main(void) {
     for (size_t holder = 1; holder <= 8; holder++)
         key_piled += 512 * titmeadow_deal_key(8, required, sets, required, 0, 7, 2026, holder, key, 16, randomness, 10 * 69, key_pile + key_piled,
                                               sizeof key_pile - key_piled).a;
+    for (size_t holder = 1; holder <= 8; holder++)
+        sets_piled += 512 * titmeadow_deal_by_sets(8, required, sets, required, 0, 7, 2026, holder, secret, 16, randomness, 16 * ANY_FIVE,
+                                                   sets_pile + sets_piled, sizeof sets_pile - sets_piled).a;
     titmeadow_plan(8, required, sets, required, 0, groups);
     mark(8, 70);
     struct { const char *name; void (*f)(void); } calls[] = {
-        {"titmeadow_plan", plan}, {"titmeadow_judge", judge}, {"titmeadow_deal", deal}, {"titmeadow_join", join}, {"titmeadow_join_by_differences", join_by_differences},
+        {"titmeadow_plan", plan}, {"titmeadow_judge", judge}, {"titmeadow_deal", deal}, {"titmeadow_deal_by_sets", deal_by_sets},
+        {"titmeadow_join", join}, {"titmeadow_join_by_differences", join_by_differences},
         {"titmeadow_open", open}, {"titmeadow_salvage", salvage}, {"titmeadow_pack", pack}, {"titmeadow_unpack", unpack},
         {"titmeadow_deal_key", deal_key}, {"titmeadow_join_key", join_key}, {"titmeadow_add", add},
         {"titmeadow_desk_open", desk_open}, {"titmeadow_desk_hand_in", desk_hand_in}, {"titmeadow_desk_ask", desk_ask}, {"titmeadow_desk_close", desk_close}};
@@ -206,6 +234,8 @@ int main(void) {
         size_t bytes = used(calls[i].f) - base;
         printf("| `%s` | %zu |\n", calls[i].name, bytes);
     }
+    printf("| `titmeadow_join`, by sets | %zu |\n", used(join_sets) - base);
+    printf("| `titmeadow_join_by_differences`, by sets | %zu |\n", used(join_sets_by_differences) - base);
     over_k("titmeadow_join", join_few, base);
     over_k("titmeadow_join_by_differences", join_few_by_differences, base);
     over_k("titmeadow_desk_hand_in", few_hand_in, base);

@@ -85,6 +85,33 @@ pub fn good_deal(n: &mut Numbers) -> Deal {
     }
 }
 
+/// One argument of a deal made bad.
+pub fn spoil(n: &mut Numbers, d: &mut Deal, holder: &mut usize) {
+    match n.below(9) {
+        0 => d.number = [0, 32749, 65536, usize::MAX][n.below(4)],
+        8 => d.year = bad_year(n),
+        1 => *holder = [0, d.people + 1, usize::MAX][n.below(3)],
+        2 => d.secret.clear(),
+        3 => d.secret.resize(17 + n.below(3), 7),
+        4 => {
+            let at = n.below(d.secret.len().max(1));
+            if let Some(word) = d.secret.get_mut(at) {
+                *word = 32749 + n.below(32787) as u16;
+            }
+        }
+        5 => d.random.push(1),
+        6 => {
+            d.random.pop();
+        }
+        _ => {
+            let at = n.below(d.random.len().max(1));
+            if let Some(word) = d.random.get_mut(at) {
+                *word = 32749 + n.below(32787) as u16;
+            }
+        }
+    }
+}
+
 /// A holder's card of a deal that is accepted.
 pub fn card(d: &Deal, holder: usize) -> Vec<u8> {
     let mut out = vec![0; 70 * BLOCK];

@@ -1,6 +1,7 @@
 //! An implementation of SCOPE that is independent of the proved one, the proved library behind safe functions, and what
 //! tests and benchmarks share.
 
+pub mod both;
 pub mod cards;
 pub mod desks;
 pub mod inputs;
@@ -11,4 +12,5 @@ pub mod numbers;
 pub mod pairs;
 pub mod reference;
 pub mod scratched;
+pub mod sets;
 pub mod unit;

@@ -28,6 +28,11 @@ impl Kinds {
         *self.0.entry(kind.into()).or_default() += 1;
     }
 
+    /// How many were met whose names begin so.
+    pub fn of(&self, beginning: &str) -> usize {
+        self.0.iter().filter(|(kind, _)| kind.starts_with(beginning)).map(|(_, times)| times).sum()
+    }
+
     /// Prints them; each of these was met so many times at least.
     pub fn shows(&self, kinds: &[&str], least: usize) {
         for (kind, times) in &self.0 {

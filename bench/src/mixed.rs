@@ -1,6 +1,9 @@
-//! Piles of several deals, all blocks true: an old card on top of a good pile, in it or behind it, heaps that are equally large, many heaps.
+//! Piles of several deals of the first scheme, all blocks true: an old card on top of a good pile, in it or behind it, heaps that are equally large, many heaps.
 use crate::numbers::Numbers;
-use crate::reference::{bytes_of, check, words_of, Label};
+use crate::reference::{bytes_of, check, words_of};
+
+/// What tells deals of the first scheme apart: words 2, 4, 5, 6 and 24 of a block.
+pub type Label = [u16; 5];
 
 /// The words of a block that a label has, from 1, and the least and the most that each may be.
 const WORDS: [(usize, u16, u16); 5] = [(2, 1, 32748), (4, 1, 8), (5, 1, 70), (6, 1, 16), (24, 0, 32748)];

@@ -48,6 +48,11 @@ pub fn deal(d: &Deal, holder: usize, out: &mut [u8]) -> Result<usize, Refusal> {
     calls::deal(d, holder, out).result()
 }
 
+/// The same by sets.
+pub fn deal_by_sets(d: &Deal, holder: usize, out: &mut [u8]) -> Result<usize, Refusal> {
+    calls::deal_by_sets(d, holder, out).result()
+}
+
 /// The secret into the front of `out`; the number of its words.
 pub fn join(pile: &[u8], out: &mut [u16]) -> Result<usize, Refusal> {
     calls::join(pile, out).result()

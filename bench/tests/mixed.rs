@@ -2,9 +2,9 @@
 //! what was met, by the shape of the piles, by their heaps and by the place that MIXED names.
 use bench::inputs;
 use bench::met::{Kinds, Met};
-use bench::mixed::{self, label};
+use bench::mixed::{self, label, Label};
 use bench::numbers::Numbers;
-use bench::reference::{self, heaps, Label, Refusal, BLOCK};
+use bench::reference::{self, heaps, Refusal, BLOCK};
 use bench::unit;
 
 const SHAPES: [&str; 9] = [

@@ -3,7 +3,7 @@
 use bench::inputs;
 use bench::numbers::Numbers;
 use bench::reference::{joining, listing, salvaging};
-use bench::scratched;
+use bench::{scratched, sets};
 use std::io::Write;
 use std::path::Path;
 use std::process::{Command, Stdio};
@@ -66,9 +66,16 @@ fn listings() {
 #[test]
 fn joined_piles() {
     let mut n = Numbers::new(22);
-    for _ in 0..1_000 {
+    for at in 0..1_200 {
         let d = inputs::good_deal(&mut n);
-        let pile = inputs::pile(&mut n, &d);
+        // every sixth by sets
+        let pile = match at % 6 {
+            5 => {
+                let s = sets::by_sets(&mut n, &d);
+                sets::pile(&mut n, &d, &s).1
+            }
+            _ => inputs::pile(&mut n, &d),
+        };
         assert_eq!(run("join", &pile), (joining(&pile), Vec::new()), "{d:?}");
     }
 }
@@ -78,7 +85,12 @@ fn salvaged_piles() {
     let mut n = Numbers::new(23);
     for _ in 0..1_000 {
         let d = inputs::good_deal(&mut n);
-        let (_, lost, _) = scratched::pile(&mut n, &inputs::blocks(&d, (1 << d.people) - 1));
+        let mut blocks = inputs::blocks(&d, (1 << d.people) - 1);
+        if n.once_in(6) {
+            let s = sets::by_sets(&mut n, &d);
+            blocks.extend(sets::blocks(&s, (1 << d.people) - 1));
+        }
+        let (_, lost, _) = scratched::pile(&mut n, &blocks);
         let (bytes, text) = run("salvager", &lost);
         let (their_bytes, their_text) = salvaging(&lost);
         assert_eq!(String::from_utf8_lossy(&text), String::from_utf8_lossy(&their_text));

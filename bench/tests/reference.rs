@@ -1,4 +1,5 @@
 //! The independent implementation on the cases of SCOPE 8, so that what the library is held to is itself held to the text.
+use bench::mixed::Label;
 use bench::numbers::Numbers;
 use bench::reference::*;
 
@@ -191,7 +192,7 @@ fn salvaged_with_another_fault() {
     // holder 3 for 4: the value would have to be (12025 - 2054)/8, which is 5340; that is a true block, though it is not the one dealt
     let (_, words, said, list) = salvaged(&[(3, 3), (8, 32767)]);
     assert_eq!((words[2], words[7], words[255], said, list), (3, 5340, 12025, Ok(1), [1, 8]));
-    // the mark lost where word 256 is 0: no mark but 1987 is one
+    // the mark lost where word 256 is 0: no mark but 1987 and 1988 is one
     let (same, _, said, _) = salvaged(&[(1, 32767), (256, 0)]);
     assert_eq!((same, said), (true, Ok(0)));
     // two words lost

@@ -2,7 +2,7 @@
 use bench::inputs;
 use bench::met::Met;
 use bench::numbers::Numbers;
-use bench::reference::{self, Deal, Refusal, BLOCK};
+use bench::reference::{self, Refusal, BLOCK};
 use bench::unit;
 
 #[test]
@@ -26,33 +26,6 @@ fn policies() {
     met.shows(&[0, 1, 2, 3, 4, 5, 6, 22]);
 }
 
-/// One argument made bad, or two.
-fn spoil(n: &mut Numbers, d: &mut Deal, holder: &mut usize) {
-    match n.below(9) {
-        0 => d.number = [0, 32749, 65536, usize::MAX][n.below(4)],
-        8 => d.year = inputs::bad_year(n),
-        1 => *holder = [0, d.people + 1, usize::MAX][n.below(3)],
-        2 => d.secret.clear(),
-        3 => d.secret.resize(17 + n.below(3), 7),
-        4 => {
-            let at = n.below(d.secret.len().max(1));
-            if let Some(word) = d.secret.get_mut(at) {
-                *word = 32749 + n.below(32787) as u16;
-            }
-        }
-        5 => d.random.push(1),
-        6 => {
-            d.random.pop();
-        }
-        _ => {
-            let at = n.below(d.random.len().max(1));
-            if let Some(word) = d.random.get_mut(at) {
-                *word = 32749 + n.below(32787) as u16;
-            }
-        }
-    }
-}
-
 #[test]
 fn deals() {
     let mut n = Numbers::new(2);
@@ -65,10 +38,10 @@ fn deals() {
             (d.people, d.required, d.forbidden) = (people, required, forbidden);
         }
         if n.once_in(2) {
-            spoil(&mut n, &mut d, &mut holder);
+            inputs::spoil(&mut n, &mut d, &mut holder);
         }
         if n.once_in(10) {
-            spoil(&mut n, &mut d, &mut holder);
+            inputs::spoil(&mut n, &mut d, &mut holder);
         }
         let room = if n.once_in(4) { n.below(36 * BLOCK) } else { 36 * BLOCK };
         let before: Vec<u8> = (0..room).map(|_| n.next() as u8).collect();

@@ -48,6 +48,22 @@ fn the_walk() {
     assert!(cat(&["two_years"]) == cat(&["card1", "earlier2", "card5", "card6"]));
 }
 
+/// P1's cards by sets, with the words that SCOPE 8 works out; two people next to each other open, whoever they are. Under them the first scheme's card of
+/// the same number is of another deal.
+#[test]
+fn by_sets() {
+    let heads = |name: &str| cat(&[name]).chunks(BLOCK).map(|block| (words_of(block)[24], words_of(block)[7], words_of(block)[255])).collect::<Vec<_>>();
+    assert_eq!(heads("sets1"), [(1, 1239, 11981)]);
+    assert_eq!(heads("sets2"), [(1, 1244, 12031), (2, 1241, 12025)]);
+    assert_eq!(heads("sets3"), [(2, 1248, 12091), (3, 1243, 12069)]);
+    assert_eq!(heads("sets4"), [(3, 1252, 12151)]);
+    for (one, two, line) in [(1, 2, "secret 1234\n"), (3, 2, "secret 1234\n"), (3, 4, "secret 1234\n"), (1, 3, "refused 20 0 0\n"), (4, 2, "refused 20 0 0\n")] {
+        assert_eq!(joining(&cat(&[&format!("sets{one}"), &format!("sets{two}")])), line.as_bytes());
+    }
+    assert_eq!(joining(&cat(&["two_schemes"])), b"refused 18 1 0\n");
+    assert!(cat(&["two_schemes"])[BLOCK..] == cat(&["sets1", "sets2", "sets3"]));
+}
+
 /// The cards that are kept of the time when blocks had no year: 0 in word 24, and else the cards of 2026 but for the check. By both joiners they
 /// join as they did; some of them are SHORT, and with a card of 2026 they are MIXED.
 #[test]

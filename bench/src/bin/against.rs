@@ -1,10 +1,12 @@
 //! against SEED COUNT FOLDER COMMAND [ARGUMENT..]: a joining program beside target/run/join, which ./join runs, on the stored piles, on
-//! every group of the sample cards, on an old card among them, on cards without a year and on COUNT random piles, good and damaged. Prints where the two differ and
+//! every group of the sample cards, by either scheme, on an old card among them, on cards without a year and on COUNT random piles, good and damaged, every fourth of
+//! them by sets. Prints where the two differ and
 //! keeps that pile in FOLDER; status 0 only where they never do. tools/against calls it, after ./join has built what it runs.
 use bench::cards::EARLIER;
 use bench::inputs;
 use bench::numbers::Numbers;
 use bench::reference::joining;
+use bench::sets;
 use std::collections::BTreeMap;
 use std::io::{Read, Write};
 use std::os::unix::process::ExitStatusExt;
@@ -105,9 +107,21 @@ impl Trial {
 
 fn stored(top: &Path) -> Vec<PathBuf> {
     let files = std::fs::read_dir(top.join("crates/runs_join/data")).unwrap().map(|file| file.unwrap().path());
-    let mut files: Vec<PathBuf> = files.chain(["samples/dirty", "samples/two_years"].map(|file| top.join(file))).collect();
+    let mut files: Vec<PathBuf> = files.chain(["samples/dirty", "samples/two_years", "samples/two_schemes"].map(|file| top.join(file))).collect();
     files.sort();
     files
+}
+
+/// Every group of so many people with cards in samples/; the cards.
+fn groups(trial: &mut Trial, top: &Path, name: &str, people: usize) -> Vec<Vec<u8>> {
+    let cards: Vec<Vec<u8>> = (1..=people).map(|holder| std::fs::read(top.join(format!("samples/{name}{holder}"))).unwrap()).collect();
+    for group in 0..1 << people {
+        let holders: Vec<usize> = (1..=people).filter(|holder| group >> (holder - 1) & 1 == 1).collect();
+        let members: String = holders.iter().map(|holder| format!("-{holder}")).collect();
+        let pile: Vec<u8> = holders.iter().flat_map(|holder| cards[holder - 1].clone()).collect();
+        trial.on(trial.folder.join(format!("samples-{name}{members}")), &pile);
+    }
+    cards
 }
 
 fn main() {
@@ -126,7 +140,7 @@ fn main() {
         theirs: words[3..].to_vec(),
         ours: vec![at("tools/x86-64"), "run".to_string(), at("target/run/join")],
         folder: folder.clone(),
-        of: files.len() + 64 + 4 + 4 + count,
+        of: files.len() + 64 + 16 + 4 + 4 + count,
         piles: 0,
         differ: 0,
         answers: BTreeMap::new(),
@@ -136,13 +150,8 @@ fn main() {
         let pile = std::fs::read(&file).unwrap();
         trial.on(file, &pile);
     }
-    let cards: Vec<Vec<u8>> = (1..=6).map(|holder| std::fs::read(top.join(format!("samples/card{holder}"))).unwrap()).collect();
-    for group in 0..64 {
-        let holders: Vec<usize> = (1..=6).filter(|holder| group >> (holder - 1) & 1 == 1).collect();
-        let name: String = holders.iter().map(|holder| format!("-{holder}")).collect();
-        let pile: Vec<u8> = holders.iter().flat_map(|holder| cards[holder - 1].clone()).collect();
-        trial.on(folder.join(format!("samples{name}")), &pile);
-    }
+    let cards = groups(&mut trial, top, "card", 6);
+    groups(&mut trial, top, "sets", 4);
     let old = std::fs::read(top.join("samples/old2")).unwrap();
     for at in 0..=3 {
         let mut pile = [1, 5, 6].map(|holder: usize| cards[holder - 1].clone()).to_vec();
@@ -156,7 +165,13 @@ fn main() {
     let mut n = Numbers::new(seed);
     for at in 1..=count {
         let d = inputs::good_deal(&mut n);
-        let pile = inputs::pile(&mut n, &d);
+        let pile = match at % 4 {
+            0 => {
+                let s = sets::by_sets(&mut n, &d);
+                sets::pile(&mut n, &d, &s).1
+            }
+            _ => inputs::pile(&mut n, &d),
+        };
         trial.on(folder.join(format!("seed{seed}-pile{at}")), &pile);
     }
     let answers: Vec<String> = trial.answers.iter().map(|(answer, times)| format!("{answer}: {times}")).collect();

@@ -1,6 +1,7 @@
 //! Adding two blocks (SCOPE 4.1): into one of a new deal number and year, the values one by one.
 
-use super::{block_words, bytes_of, check_block, refuse, words_of, Refusal, BLOCK, P};
+use super::block::check_first;
+use super::{block_words, bytes_of, refuse, words_of, Refusal, BLOCK, P};
 
 /// The words of a block that is lent alone, as block a of the two: refusals 13, 15, 16 and 17.
 fn lent(block: &[u8], a: usize) -> Result<[u16; 256], Refusal> {
@@ -8,7 +9,7 @@ fn lent(block: &[u8], a: usize) -> Result<[u16; 256], Refusal> {
         return refuse(13, 0, 0);
     }
     let words = words_of(block);
-    check_block(&words, a)?;
+    check_first(&words, a)?;
     Ok(words)
 }
 

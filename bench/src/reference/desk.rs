@@ -1,6 +1,7 @@
 //! A desk for two clients (SCOPE 5.2): its whole state, and what each call answers and leaves there, whatever was there before.
 
-use super::{check_block, refuse, weights, words_of, Refusal, BLOCK, P};
+use super::block::check_first;
+use super::{refuse, weights, words_of, Refusal, BLOCK, P};
 
 /// The state as it is lent: 70 slots of a mark and 16 values, and the five words of each client.
 #[repr(C)]
@@ -25,7 +26,7 @@ pub(super) fn of_deal(block: &[u8], opened: &[usize; 5]) -> Result<[u16; 256], R
         return refuse(13, 0, 0);
     }
     let words = words_of(block);
-    check_block(&words, 1)?;
+    check_first(&words, 1)?;
     if (0..5).any(|at| words[OPENING[at].0 - 1] as usize != opened[at]) {
         return refuse(18, 1, 0);
     }

@@ -1,11 +1,8 @@
 //! Which deal a pile is of (SCOPE 6.3, MIXED): its blocks lie in heaps, one for each deal, and the largest is the pile's own.
 use std::cmp::Reverse;
 
-/// What tells deals apart: words 2, 4, 5, 6 and 24 of a block.
-pub type Label = [u16; 5];
-
-/// The heaps of a pile in the order of their first blocks: which deal each is of, and how many blocks it has.
-pub fn heaps(labels: &[Label]) -> Vec<(Label, usize)> {
+/// The heaps of a pile in the order of their first blocks: which deal each is of, and how many blocks it has. A label is what tells deals apart.
+pub fn heaps<Label: PartialEq + Copy>(labels: &[Label]) -> Vec<(Label, usize)> {
     let mut heaps: Vec<(Label, usize)> = Vec::new();
     for label in labels {
         match heaps.iter_mut().find(|heap| heap.0 == *label) {
@@ -17,7 +14,7 @@ pub fn heaps(labels: &[Label]) -> Vec<(Label, usize)> {
 }
 
 /// The first block, from 0, that is outside the pile's own heap. Of heaps that are equally large, the own one is that which begins first.
-pub fn outside(labels: &[Label]) -> Option<usize> {
+pub fn outside<Label: PartialEq + Copy>(labels: &[Label]) -> Option<usize> {
     let heaps = heaps(labels);
     let own = heaps.iter().min_by_key(|heap| Reverse(heap.1))?;
     labels.iter().position(|label| *label != own.0)

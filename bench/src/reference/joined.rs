@@ -1,6 +1,7 @@
 //! From the pieces of a pile to its secret, in two ways: Lagrange's formula, and differences alone.
 
-use super::{complete, Refusal, P};
+use super::pile::complete;
+use super::{Refusal, P};
 
 /// A power of a number, mod p.
 pub(super) fn power(base: u64, mut exponent: u64) -> u64 {

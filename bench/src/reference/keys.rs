@@ -1,7 +1,8 @@
 //! Keys (SCOPE 3.1): sixteen bytes as ten words, and back; a key dealt, and joined to. A key is a `u128`, taken apart and put together by
 //! arithmetic on that one number.
 
-use super::{deal, join, refuse, sound, Deal, Refusal};
+use super::dealt::sound;
+use super::{deal, join, refuse, Deal, Refusal};
 
 /// The most that word i, from 0, of a key's ten can be: 117 of the 128 bits stand in the nine words behind the first.
 fn most(i: usize) -> u16 {

@@ -1,7 +1,8 @@
 //! Salvage (SCOPE 5.1): the one dirty word of a block, found again by the check.
 
+use super::block::wrong;
 use super::joined::power;
-use super::{bytes_of, check, refuse, words_of, wrong, Refusal, BLOCK, P};
+use super::{bytes_of, check, refuse, words_of, Refusal, BLOCK, P};
 
 /// The value for word i, from 1, with which the check of a block comes out; what stands there now does not count. It is the only one of 0 to
 /// 32748, since i is no multiple of p and has an inverse (Fermat); word 256 is the check itself.

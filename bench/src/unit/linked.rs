@@ -39,6 +39,22 @@ extern "C" {
         card: *mut u8,
         room: usize,
     ) -> Answer;
+    fn titmeadow_deal_by_sets(
+        people: usize,
+        required: *const u16,
+        required_count: usize,
+        forbidden: *const u16,
+        forbidden_count: usize,
+        deal: usize,
+        year: usize,
+        holder: usize,
+        secret: *const u16,
+        words: usize,
+        random: *const u16,
+        random_count: usize,
+        card: *mut u8,
+        room: usize,
+    ) -> Answer;
     fn titmeadow_join(pile: *const u8, length: usize, secret: *mut u16, room: usize) -> Answer;
     fn titmeadow_join_by_differences(pile: *const u8, length: usize, secret: *mut u16, room: usize) -> Answer;
     fn titmeadow_open(pile: *const u8, length: usize, head: *mut u16) -> Answer;
@@ -107,9 +123,27 @@ pub fn judge(people: usize, required: &[u16], forbidden: &[u16], list: &Holdings
     }
 }
 
-pub fn deal(d: &Deal, holder: usize, out: &mut [u8]) -> Answer {
+/// What both schemes are dealt by.
+type Dealer = unsafe extern "C" fn(
+    usize,
+    *const u16,
+    usize,
+    *const u16,
+    usize,
+    usize,
+    usize,
+    usize,
+    *const u16,
+    usize,
+    *const u16,
+    usize,
+    *mut u8,
+    usize,
+) -> Answer;
+
+fn dealt(dealer: Dealer, d: &Deal, holder: usize, out: &mut [u8]) -> Answer {
     unsafe {
-        titmeadow_deal(
+        dealer(
             d.people,
             d.required.as_ptr(),
             d.required.len(),
@@ -126,6 +160,14 @@ pub fn deal(d: &Deal, holder: usize, out: &mut [u8]) -> Answer {
             out.len(),
         )
     }
+}
+
+pub fn deal(d: &Deal, holder: usize, out: &mut [u8]) -> Answer {
+    dealt(titmeadow_deal, d, holder, out)
+}
+
+pub fn deal_by_sets(d: &Deal, holder: usize, out: &mut [u8]) -> Answer {
+    dealt(titmeadow_deal_by_sets, d, holder, out)
 }
 
 pub fn join(pile: &[u8], out: &mut [u16]) -> Answer {

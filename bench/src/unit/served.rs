@@ -81,9 +81,17 @@ pub fn judge(people: usize, required: &[u16], forbidden: &[u16], list: &Holdings
     ask(20, [people, list.people, list.pieces, list.needed], [&bytes(required), &bytes(forbidden), &list.marks, &[]], &mut [])
 }
 
-pub fn deal(d: &Deal, holder: usize, out: &mut [u8]) -> Answer {
+fn ask_deal(call: u64, d: &Deal, holder: usize, out: &mut [u8]) -> Answer {
     let lists = [&d.required, &d.forbidden, &d.secret, &d.random].map(|words| bytes(words));
-    ask(2, [d.people, d.number, d.year, holder], [&lists[0], &lists[1], &lists[2], &lists[3]], out)
+    ask(call, [d.people, d.number, d.year, holder], [&lists[0], &lists[1], &lists[2], &lists[3]], out)
+}
+
+pub fn deal(d: &Deal, holder: usize, out: &mut [u8]) -> Answer {
+    ask_deal(2, d, holder, out)
+}
+
+pub fn deal_by_sets(d: &Deal, holder: usize, out: &mut [u8]) -> Answer {
+    ask_deal(16, d, holder, out)
 }
 
 pub fn join(pile: &[u8], out: &mut [u16]) -> Answer {

@@ -75,6 +75,8 @@ module _ (one two : List ℕ) (new : Pair) (room : ℕ) where
           whole-two = second .0;
           true-one = first .1;
           true-two = second .1;
+          mark-one = first .2;
+          mark-two = second .2;
           alike = not-unlike one two (p .0);
           number-in = in-range 32748 (new .number) (q .0);
           year-in = ltb-false 32748 (new .year) (r .0);
@@ -89,8 +91,8 @@ module _ (one two : List ℕ) (new : Pair) (room : ℕ) where
   unfolding adding addLines badNumber badYear noRoom
   of-addable y =
       passed-done (addLines one two new room) (done 1)
-      (passed-both (oneLines one 1) (true-one one 1 (y .whole-one) (y .true-one))
-      (passed-both (oneLines two 2) (true-one two 2 (y .whole-two) (y .true-two))
+      (passed-both (oneLines one 1) (true-one one 1 (y .whole-one) (y .true-one) (y .mark-one))
+      (passed-both (oneLines two 2) (true-one two 2 (y .whole-two) (y .true-two) (y .mark-two))
       (passed-one (not-found one two (y .alike))
       (passed-one (range-in 32748 (new .number) (y .number-in .0) (y .number-in .1))
       (passed-one (le-ltb 32748 (new .year) (y .year-in))

@@ -19,8 +19,9 @@ use Rattle.block.specs.Words.{wordAt}
 use Rattle.block.specs.Layout.{widthOf, labelOf, valuesOf}
 use Rattle.block.specs.Open.{TrueBlock}
 use Rattle.block.specs.Written.{blockBytes, Buildable}
+use Rattle.block.specs.Laws.{first}
 use Rattle.block.proofs.LayoutLaws.{values-count}
-use Rattle.block.proofs.RangeLaws.{true-ranges}
+use Rattle.block.proofs.RangeLaws.{true-ranges, first-set}
 use Rattle.block.proofs.BodyLaws.{builds, length-block}
 use Rattle.block.proofs.Laws.{opens-written, written-words}
 use Rattle.adding.specs.declared.Pair.{Pair}
@@ -69,6 +70,7 @@ module _ {one two : List ℕ} {new : Pair} {room : ℕ} (y : Addable one two new
         pieces = r .pieces;
         width = r .width;
         piece = r .piece;
+        scheme = first (y .mark-one) (first-set (y .true-one) (y .mark-one));
       })
       (y .number-in .1)
       (y .year-in)
@@ -94,8 +96,14 @@ module _ {one two : List ℕ} {new : Pair} {room : ℕ} (y : Addable one two new
   -- a label of these fields and a list of these values are those of the sum
   pub label-from : {people pieces width holder piece : ℕ} → people ≡ wordAt one 4 → pieces ≡ wordAt one 5 → width ≡ wordAt one 6
       → holder ≡ wordAt one 3 → piece ≡ wordAt one 7
-      → _≡_ {A = Label} (record { deal = record { number = new .number; people = people; pieces = pieces; width = width; year = new .year }; holder = holder; piece = piece }) label
-  label-from e f g h k = λ t. record { deal = record { number = new .number; people = e t; pieces = f t; width = g t; year = new .year }; holder = h t; piece = k t }
+      → _≡_ {A = Label}
+      (record { mark = 1987; number = new .number; holder = holder; people = people; pieces = pieces; width = width; piece = piece; year = new .year; set = 0 })
+      label
+  label-from e f g h k =
+      let mark = sym (y .mark-one) in
+      let none = sym (first-set (y .true-one) (y .mark-one)) in
+      λ t.
+      record { mark = mark t; number = new .number; holder = h t; people = e t; pieces = f t; width = g t; piece = k t; year = new .year; set = none t }
 
   module _ {l : Label} {vs : List ℕ} (e : l ≡ label) (f : vs ≡ values) where
     pub built : Buildable l vs
@@ -113,6 +121,8 @@ module _ {one two : List ℕ} {new : Pair} {room : ℕ} (y : Addable one two new
         whole-two = y .whole-one;
         true-one = y .true-two;
         true-two = y .true-one;
+        mark-one = y .mark-two;
+        mark-two = y .mark-one;
         alike = λ i l h. sym (y .alike i l h);
         number-in = y .number-in;
         year-in = y .year-in;
@@ -122,17 +132,20 @@ module _ {one two : List ℕ} {new : Pair} {room : ℕ} (y : Addable one two new
       }
 
   same-label : labelUnder new (labelOf two) ≡ labelUnder new (labelOf one)
-  same-label = λ t.
+  same-label =
+      let mark = y .mark-two ∙ sym (y .mark-one) in
+      let none = first-set (y .true-two) (y .mark-two) ∙ sym (first-set (y .true-one) (y .mark-one)) in
+      λ t.
       record {
-        deal = record {
-          number = new .number;
-          people = sym (y .alike 4 (omega arith) (omega arith)) t;
-          pieces = sym (y .alike 5 (omega arith) (omega arith)) t;
-          width = sym (y .alike 6 (omega arith) (omega arith)) t;
-          year = new .year;
-        };
+        mark = mark t;
+        number = new .number;
         holder = sym (y .alike 3 (omega arith) (omega arith)) t;
+        people = sym (y .alike 4 (omega arith) (omega arith)) t;
+        pieces = sym (y .alike 5 (omega arith) (omega arith)) t;
+        width = sym (y .alike 6 (omega arith) (omega arith)) t;
         piece = sym (y .alike 7 (omega arith) (omega arith)) t;
+        year = new .year;
+        set = none t;
       }
 
   pub sum-exchanged : sumOf two one new ≡ sumOf one two new

@@ -17,13 +17,15 @@ use Rattle.adding.specs.Sum.{differ, pairIn, labelUnder, sumOf}
 use Rattle.adding.specs.Adding.{adding, sumInto}
 
 -- ---- what is added
--- what two blocks are that add up under this number and year: true blocks of 512 bytes, alike in words 3 to 7, neither of that number and
--- that year, with room for the sum
+-- what two blocks are that add up under this number and year: true blocks of 512 bytes, of the first scheme, alike in words 3 to 7, neither of
+-- that number and that year, with room for the sum
 pub record Addable (one two : List ℕ) (new : Pair) (room : ℕ) : Type 0 where
   pub whole-one : length one ≡ 512
   pub whole-two : length two ≡ 512
   pub true-one : TrueBlock one
   pub true-two : TrueBlock two
+  pub mark-one : wordAt one 1 ≡ 1987
+  pub mark-two : wordAt two 1 ≡ 1987
   pub alike : (i : ℕ) → 3 ≤ i → i ≤ 7 → wordAt one i ≡ wordAt two i
   pub number-in : (1 ≤ new .number) × (new .number ≤ 32748)
   pub year-in : new .year ≤ 32748

@@ -32,9 +32,15 @@ pairIn b = pairOf (wordAt b 2) (wordAt b 24)
 abbrev pub labelUnder : Pair → Label → Label
 labelUnder new l =
     record {
-      deal = record { number = new .number; people = l .deal .people; pieces = l .deal .pieces; width = l .deal .width; year = new .year };
+      mark = l .mark;
+      number = new .number;
       holder = l .holder;
+      people = l .people;
+      pieces = l .pieces;
+      width = l .width;
       piece = l .piece;
+      year = new .year;
+      set = l .set;
     }
 
 -- the sum's 512 bytes: words 3 to 7 of block one under the new number and year, and the values added one by one mod p

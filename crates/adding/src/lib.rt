@@ -2,7 +2,6 @@
 // cards of a deal of zeros to those of another deal renews them.
 use answer::Answer;
 use answer::Kind;
-use block::DealWords;
 use block::Label;
 ghost use mathlib.Core.Path.{_≡_};
 ghost use mathlib.Core.List.{[], _∷_};
@@ -127,17 +126,16 @@ fn write_sum(one: &[u8], two: &[u8], new: Pair, out: &mut [u8])
     let piece = block::word(one, 7);
     let w = width as usize;
     let made = added_values(one, two, w);
-    let deal = DealWords {
+    let label = Label {
+        mark: 1987,
         number: new.number as u16,
+        holder: holder,
         people: people,
         pieces: pieces,
         width: width,
-        year: new.year as u16,
-    };
-    let label = Label {
-        deal: deal,
-        holder: holder,
         piece: piece,
+        year: new.year as u16,
+        set: 0,
     };
     block::write_block(out, label, &made[..w]);
 }

@@ -13,7 +13,7 @@ use Rattle.block.specs.declared.Label.{Label}
 use Rattle.block.specs.Words.{bytesOf, checkOf}
 use Rattle.block.specs.Layout.{heldAt}
 use Rattle.block.specs.Written.{body, blockBytes, Buildable}
-use Rattle.block.specs.Laws.{Ranges}
+use Rattle.block.specs.Laws.{Scheme, first, sets, Ranges}
 use Rattle.block.proofs.WordLaws.{length-bytes}
 use Rattle.block.proofs.LayoutLaws.{held-rest}
 use Rattle.block.proofs.RangeLaws.{of-ranges}
@@ -44,19 +44,28 @@ module _ (l : Label) (vs : List ℕ) where
       ∙ ap₂ _+_ (length-bytes (body l vs) ∙ ap (λ (n : ℕ). 2 * n) length-body) (length-bytes (checkOf b ∷ []))
 
 -- ---- a label in its ranges and values of at most 32748 can be written
-module _ (l : Label) (vs : List ℕ) (y : Ranges l) (number : l .deal .number ≤ 32748) (year : l .deal .year ≤ 32748) (values : (i : ℕ) → getD vs i 0 ≤ 32748) where
+mark-small : {l : Label} → Scheme l → l .mark ≤ 32748
+mark-small (first m s) = omega arith
+mark-small (sets m s t k) = omega arith
+
+set-small : {l : Label} → Scheme l → l .set ≤ 32748
+set-small (first m s) = omega arith
+set-small (sets m s t k) = omega arith
+
+module _ (l : Label) (vs : List ℕ) (y : Ranges l) (number : l .number ≤ 32748) (year : l .year ≤ 32748) (values : (i : ℕ) → getD vs i 0 ≤ 32748) where
   past-small : (i : ℕ) → 8 ≤ i → heldAt l vs i ≤ 32748
   unfolding heldAt
-  past-small i u = far (ℕ-discrete i 24)
+  past-small i u = far (ℕ-discrete i 24) (ℕ-discrete i 25)
     where
-      far : Dec (i ≡ 24) → heldAt l vs i ≤ 32748
-      far (yes e) = rw e year
-      far (no n) = rw (held-rest l vs i u n) (values (i - 8))
+      far : Dec (i ≡ 24) → Dec (i ≡ 25) → heldAt l vs i ≤ 32748
+      far (yes e) d = rw e year
+      far (no n) (yes e) = rw e (set-small (y .scheme))
+      far (no n) (no m) = rw (held-rest l vs i u n m) (values (i - 8))
 
   held-small : (i : ℕ) → 1 ≤ i → heldAt l vs i ≤ 32748
   unfolding heldAt
   held-small zero u = absurd (omega arith)
-  held-small (suc zero) u = omega arith
+  held-small (suc zero) u = mark-small (y .scheme)
   held-small (suc (suc zero)) u = number
   held-small (suc (suc (suc zero))) u = omega (arith, y .holder .1)
   held-small (suc (suc (suc (suc zero)))) u = omega (arith, y .people .1)
@@ -65,5 +74,5 @@ module _ (l : Label) (vs : List ℕ) (y : Ranges l) (number : l .deal .number �
   held-small (suc (suc (suc (suc (suc (suc (suc zero))))))) u = omega (arith, y .piece .1, y .pieces .1)
   held-small (suc (suc (suc (suc (suc (suc (suc (suc i)))))))) u = past-small (suc (suc (suc (suc (suc (suc (suc (suc i)))))))) (omega arith)
 
-  pub builds : l .deal .width ≡ length vs → Buildable l vs
+  pub builds : l .width ≡ length vs → Buildable l vs
   builds e = record { ranged = of-ranges l y; counted = e; small = λ i from to. held-small i from }

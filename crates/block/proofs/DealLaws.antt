@@ -11,6 +11,7 @@ pub deal-same : (x : DealWords) → sameDeal x x ≡ true
 unfolding sameDeal
 deal-same x =
     rw (
+      eq-eqb (x .mark) (x .mark) refl,
       eq-eqb (x .number) (x .number) refl,
       eq-eqb (x .people) (x .people) refl,
       eq-eqb (x .pieces) (x .pieces) refl,
@@ -21,17 +22,20 @@ deal-same x =
 pub same-deal : (x y : DealWords) → sameDeal x y ≡ true → x ≡ y
 unfolding sameDeal
 same-deal x y e =
-    let f =
-    both
-    (eqb (x .number) (y .number) && eqb (x .people) (y .people) && eqb (x .pieces) (y .pieces) && eqb (x .width) (y .width))
-    (eqb (x .year) (y .year))
-    e in
-    let d = both (eqb (x .number) (y .number) && eqb (x .people) (y .people) && eqb (x .pieces) (y .pieces)) (eqb (x .width) (y .width)) (f .0) in
-    let c = both (eqb (x .number) (y .number) && eqb (x .people) (y .people)) (eqb (x .pieces) (y .pieces)) (d .0) in
-    let b = both (eqb (x .number) (y .number)) (eqb (x .people) (y .people)) (c .0) in
+    let mark = eqb (x .mark) (y .mark) in
+    let number = eqb (x .number) (y .number) in
+    let people = eqb (x .people) (y .people) in
+    let pieces = eqb (x .pieces) (y .pieces) in
+    let width = eqb (x .width) (y .width) in
+    let f = both (mark && number && people && pieces && width) (eqb (x .year) (y .year)) e in
+    let d = both (mark && number && people && pieces) width (f .0) in
+    let c = both (mark && number && people) pieces (d .0) in
+    let b = both (mark && number) people (c .0) in
+    let a = both mark number (b .0) in
     λ i.
     record {
-      number = eqb-true (x .number) (y .number) (b .0) i;
+      mark = eqb-true (x .mark) (y .mark) (a .0) i;
+      number = eqb-true (x .number) (y .number) (a .1) i;
       people = eqb-true (x .people) (y .people) (b .1) i;
       pieces = eqb-true (x .pieces) (y .pieces) (c .1) i;
       width = eqb-true (x .width) (y .width) (d .1) i;

@@ -71,6 +71,18 @@ refused-empty = value.refused-empty
 pub same-deal-means : law.SameDealMeans
 same-deal-means x y = (deal.same-deal x y, λ e. ap (sameDeal x) (sym e) ∙ deal.deal-same x)
 
+pub piece-tells : law.PieceTells
+piece-tells = range.piece-tells
+
+pub first-piece : law.FirstPiece
+first-piece = range.first-piece
+
+pub first-only : law.FirstOnly
+first-only = «open».first-only
+
+pub one-means : law.OneMeans
+one-means b a = («open».one-true b a, λ h. «open».true-one b a (h .0) (h .1) (h .2))
+
 pub earlier-block : law.EarlierBlock
 earlier-block = earlier.earlier-block
 

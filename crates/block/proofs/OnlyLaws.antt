@@ -30,15 +30,15 @@ module _ (b c : List ℕ) (same : (i : ℕ) → 1 ≤ i → i ≤ 256 → wordAt
   label-same : labelOf b ≡ labelOf c
   label-same = λ t.
       record {
-        deal = record {
-          number = same 2 (omega arith) (omega arith) t;
-          people = same 4 (omega arith) (omega arith) t;
-          pieces = same 5 (omega arith) (omega arith) t;
-          width = same 6 (omega arith) (omega arith) t;
-          year = same 24 (omega arith) (omega arith) t;
-        };
+        mark = same 1 (omega arith) (omega arith) t;
+        number = same 2 (omega arith) (omega arith) t;
         holder = same 3 (omega arith) (omega arith) t;
+        people = same 4 (omega arith) (omega arith) t;
+        pieces = same 5 (omega arith) (omega arith) t;
+        width = same 6 (omega arith) (omega arith) t;
         piece = same 7 (omega arith) (omega arith) t;
+        year = same 24 (omega arith) (omega arith) t;
+        set = same 25 (omega arith) (omega arith) t;
       }
 
   value-same : (k : ℕ) → k ≤ 247 → getD (valuesOf b) k 0 ≡ getD (valuesOf c) k 0

@@ -3,7 +3,7 @@
 use mathlib.Core.Path.{_≡_, refl, sym, ap, _∙_}
 use mathlib.Core.Bool.{true, not}
 use mathlib.Core.Logic.{_≢_, _↔_, ⊎-elim}
-use mathlib.Core.List.{List, [], _∷_, List·Memᴰ, List·Memᴰ·cases-cons, List·Memᴰ·not-nil}
+use mathlib.Core.List.{List, [], _∷_, _++_, List·Memᴰ, List·Memᴰ·cases-cons, List·Memᴰ·not-nil}
 use Prim.Native.Nat.{ℕ, _≤_, _<_}
 use native.Mathlib.Omega.{arith}
 use lib.ListN.{length}
@@ -17,16 +17,18 @@ use Rattle.answer.specs.Checks.{Line, firstFail}
 use Rattle.lists.specs.Some.{some}
 use Rattle.lists.specs.Laws.{IsFirst}
 use Rattle.answer.specs.Laws.{Passed, By}
-use Rattle.answer.proofs.CheckLaws.{given, not-given, passed, passed-one, passed-none, passed-done, done-passed, same-refusal, refused-by}
+use Rattle.answer.proofs.CheckLaws.{given, not-given, append-lines, passed, passed-one, passed-none, passed-append, passed-both, passed-done, done-passed, same-refusal, refused-by}
 use Rattle.answer.proofs.WhichLaws.{only-one, first-is}
 use Rattle.lists.proofs.FirstLaws.{first-all, is-first, none-in, below-end, found-some, found-none, some-found, none-found}
+use Rattle.block.specs.declared.Label.{Label}
 use Rattle.block.specs.declared.Words.{Words}
 use Rattle.block.specs.declared.Opened.the-variants.{Head, Refused}
 use Rattle.block.specs.Words.{wordAt, checkOf, Small}
 use Rattle.block.specs.Layout.{frontWords, rightAt, firstWrong}
-use Rattle.block.specs.Open.{above, firstAbove, torn, unread, check, header, slotLines, blockLines, oneLines, opening, wordsOf, opened, TrueBlock}
-use Rattle.block.specs.Laws.{Refusable, by-torn, by-unread, by-check, by-header}
+use Rattle.block.specs.Open.{above, firstAbove, torn, unread, check, header, slotLines, blockLines, tornBlock, firstForeign, foreign, oneLines, opening, wordsOf, opened, TrueBlock}
+use Rattle.block.specs.Laws.{Scheme, first, sets, Refusable, by-torn, by-unread, by-check, by-header}
 use Rattle.block.proofs.LayoutLaws.{layout-of, of-layout}
+use Rattle.block.proofs.RangeLaws.{true-ranges}
 
 -- ---- no word is found above 32748 exactly where all 256 are at most that
 pub small-of : (b : List ℕ) → firstAbove b ≡ 0 → Small b 256
@@ -84,15 +86,48 @@ passes-true b a l p =
       layout = layout-of b (none-found (firstWrong b) (h .0));
     }
 
--- ---- a block that is lent alone passes exactly where it is a true block of 512 bytes
-pub one-true : (b : List ℕ) (a : ℕ) → Passed (oneLines b a) → (length b ≡ 512) × TrueBlock b
+-- ---- a block that is lent alone passes exactly where it is a true block of 512 bytes, of the first scheme
+pub foreign-sets : (b : List ℕ) → wordAt b 1 ≡ 1988 → firstForeign b ≡ 1
+unfolding firstForeign
+foreign-sets b e = rw (eq-eqb (wordAt b 1) 1988 e)
+
+pub foreign-first : (b : List ℕ) → wordAt b 1 ≢ 1988 → firstForeign b ≡ firstWrong b
+unfolding firstForeign
+foreign-first b n = rw (ne-eqb (wordAt b 1) 1988 n)
+
+not-sets : (b : List ℕ) → firstForeign b ≡ 0 → wordAt b 1 ≢ 1988
+not-sets b z e = omega (arith, foreign-sets b e)
+
+first-scheme : {l : Label} → Scheme l → l .mark ≢ 1988 → l .mark ≡ 1987
+first-scheme (first m s) n = m
+first-scheme (sets m s t k) n = absurd (n m)
+
+pub one-true : (b : List ℕ) (a : ℕ) → Passed (oneLines b a) → (length b ≡ 512) × TrueBlock b × (wordAt b 1 ≡ 1987)
 one-true b a p =
     let h = passed p in
     let whole : length b ≡ 512 = eqb-true (length b) 512 (not-false _ (h .0)) in
-    (whole, passes-true b a (omega arith) (h .1))
+    let s = passed-append (slotLines b a) (h .1) in
+    let none : firstForeign b ≡ 0 = none-found (firstForeign b) (passed (s .1) .0) in
+    let n = not-sets b none in
+    let t = passes-true b a (omega arith) (passed-both (slotLines b a) (s .0) (passed-one (found-none (sym (foreign-first b n) ∙ none)) passed-none)) in
+    (whole, t, first-scheme (true-ranges t .scheme) n)
 
-pub true-one : (b : List ℕ) (a : ℕ) → length b ≡ 512 → TrueBlock b → Passed (oneLines b a)
-true-one b a e t = passed-one (rw (eq-eqb (length b) 512 e)) (true-passes b a t)
+pub true-one : (b : List ℕ) (a : ℕ) → length b ≡ 512 → TrueBlock b → wordAt b 1 ≡ 1987 → Passed (oneLines b a)
+true-one b a e t m =
+    let n : wordAt b 1 ≢ 1988 = λ q. omega arith in
+    passed-one (rw (eq-eqb (length b) 512 e))
+    (passed-both (slotLines b a) (passed-append (slotLines b a) (true-passes b a t) .0)
+    (passed-one (found-none (foreign-first b n ∙ of-layout b (t .layout))) passed-none))
+
+-- a block of a deal by sets that passes the others is HEADER at word 1
+pub first-only : (b : List ℕ) (a r : ℕ) → length b ≡ 512 → Passed (slotLines b a) → wordAt b 1 ≡ 1988 → firstFail (oneLines b a) (done r) ≡ refused 17 a 1
+first-only b a r size p e =
+    let w : firstForeign b ≡ 1 = foreign-sets b e in
+    not-given (tornBlock b) (slotLines b a ++ foreign b a ∷ []) (done r) (rw (eq-eqb (length b) 512 size))
+    ∙ append-lines (slotLines b a) (foreign b a ∷ []) (done r)
+    ∙ passed-done (slotLines b a) (firstFail (foreign b a ∷ []) (done r)) p
+    ∙ given (foreign b a) [] (done r) (found-some (λ (z : firstForeign b ≡ 0). omega arith))
+    ∙ ap (refused 17 a) w
 
 -- ---- opening
 pub opening-torn : (pile : List ℕ) → length pile < 512 → opening pile ≡ refused 13 0 0

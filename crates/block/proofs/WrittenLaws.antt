@@ -96,15 +96,15 @@ module _ (l : Label) (vs rest : List ℕ) where
   unfolding heldAt
   label-is = λ t.
       record {
-        deal = record {
-          number = word-is 2 (omega arith) (omega arith) t;
-          people = word-is 4 (omega arith) (omega arith) t;
-          pieces = word-is 5 (omega arith) (omega arith) t;
-          width = word-is 6 (omega arith) (omega arith) t;
-          year = word-is 24 (omega arith) (omega arith) t;
-        };
+        mark = word-is 1 (omega arith) (omega arith) t;
+        number = word-is 2 (omega arith) (omega arith) t;
         holder = word-is 3 (omega arith) (omega arith) t;
+        people = word-is 4 (omega arith) (omega arith) t;
+        pieces = word-is 5 (omega arith) (omega arith) t;
+        width = word-is 6 (omega arith) (omega arith) t;
         piece = word-is 7 (omega arith) (omega arith) t;
+        year = word-is 24 (omega arith) (omega arith) t;
+        set = word-is 25 (omega arith) (omega arith) t;
       }
 
   header-is : frontWords pile ≡ run (heldAt l vs) 1 7
@@ -121,7 +121,7 @@ module _ (l : Label) (vs rest : List ℕ) where
 
   module _ (ok : Buildable l vs) where
     width-is : widthOf pile ≡ length vs
-    width-is = ap (λ (x : Label). x .deal .width) label-is ∙ ok .counted
+    width-is = ap (λ (x : Label). x .width) label-is ∙ ok .counted
 
     few : length vs ≤ 16
     few = omega (arith, ranges-of l (ok .ranged) .width .1, ok .counted)
@@ -132,7 +132,7 @@ module _ (l : Label) (vs rest : List ℕ) where
         sym (run-is (λ i. wordAt pile (7 + i)) (widthOf pile) vs (sym width-is)
         (λ i from to.
         let e : 7 + i - 8 ≡ i - 1 = omega arith in
-        sym (word-is (7 + i) (omega arith) (omega (arith, few, width-is)) ∙ held-rest l vs (7 + i) (omega arith) (λ n. omega (arith, few, width-is)) ∙ ap (λ (k : ℕ). getD vs k 0) e)))
+        sym (word-is (7 + i) (omega arith) (omega (arith, few, width-is)) ∙ held-rest l vs (7 + i) (omega arith) (λ n. omega (arith, few, width-is)) (λ n. omega (arith, few, width-is)) ∙ ap (λ (k : ℕ). getD vs k 0) e)))
 
     true-is : TrueBlock pile
     unfolding pile check

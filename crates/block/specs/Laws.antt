@@ -2,33 +2,40 @@
 -- Assumes nothing.
 use Prim.Native.Nat.{ℕ, _+_, _*_, _≤_, _<_}
 use mathlib.Core.Path.{_≡_}
-use mathlib.Core.Bool.{true}
+use mathlib.Core.Bool.{Bool, true, false}
 use mathlib.Core.Logic.{_≢_, _↔_}
 use mathlib.Core.List.{List, [], _++_}
 use lib.ListN.{length, getD, take}
 use Rattle.lists.specs.Run.{run}
 use Rattle.lists.specs.Laws.{IsFirst}
-use Rattle.answer.specs.declared.Kind.the-variants.{Unread}
+use Rattle.answer.specs.declared.Kind.the-variants.{Unread, Header}
 use Rattle.answer.specs.Outcome.{done, refused, number}
+use Rattle.answer.specs.Checks.{firstFail}
 use Rattle.answer.specs.Laws.{Passed}
 use Rattle.block.specs.declared.deal.DealWords.{DealWords}
 use Rattle.block.specs.declared.Label.{Label}
 use Rattle.block.specs.declared.Opened.{Opened}
 use Rattle.block.specs.Words.{wordAt, putAt, bytesOf}
 use Rattle.block.specs.Deals.{sameDeal}
-use Rattle.block.specs.Layout.{frontWords, widthOf, heldAt, Ranged, labelOf, valuesOf, firstWrong}
-use Rattle.block.specs.Open.{above, blockLines, opening, valueBytes, valueStart, opened, TrueBlock}
+use Rattle.block.specs.Layout.{frontWords, pieceNumber, pieceOf, widthOf, heldAt, Ranged, labelOf, valuesOf, firstWrong}
+use Rattle.block.specs.Open.{above, slotLines, blockLines, oneLines, opening, valueBytes, valueStart, opened, TrueBlock}
 use Rattle.block.specs.Written.{blockBytes, Buildable}
 use Rattle.block.specs.Earlier.{formerWrong, formerBytes, formerSame}
 
+-- The two schemes: 1987 without a set, and 1988 with a set of 1 to 70, which has no more pieces than there are people.
+pub data Scheme (l : Label) : Type 0 where
+  first : l .mark ≡ 1987 → l .set ≡ 0 → Scheme l
+  sets : l .mark ≡ 1988 → 1 ≤ l .set → l .set ≤ 70 → l .pieces ≤ l .people → Scheme l
+
 -- The ranges of a label, as inequalities.
 pub record Ranges (l : Label) : Type 0 where
-  pub number : 1 ≤ l .deal .number
+  pub number : 1 ≤ l .number
   pub holder : (1 ≤ l .holder) × (l .holder ≤ 8)
-  pub people : (1 ≤ l .deal .people) × (l .deal .people ≤ 8) × (l .holder ≤ l .deal .people)
-  pub pieces : (1 ≤ l .deal .pieces) × (l .deal .pieces ≤ 70)
-  pub width : (1 ≤ l .deal .width) × (l .deal .width ≤ 16)
-  pub piece : (1 ≤ l .piece) × (l .piece ≤ l .deal .pieces)
+  pub people : (1 ≤ l .people) × (l .people ≤ 8) × (l .holder ≤ l .people)
+  pub pieces : (1 ≤ l .pieces) × (l .pieces ≤ 70)
+  pub width : (1 ≤ l .width) × (l .width ≤ 16)
+  pub piece : (1 ≤ l .piece) × (l .piece ≤ l .pieces)
+  pub scheme : Scheme l
 
 abbrev pub RangesMean : Type 0
 RangesMean = (l : Label) → Ranged l ↔ Ranges l
@@ -126,15 +133,34 @@ RefusedEmpty = (pile : List ℕ) (m a b : ℕ) → opening pile ≡ refused m a 
 abbrev pub SameDealMeans : Type 0
 SameDealMeans = (x y : DealWords) → (sameDeal x y ≡ true) ↔ (x ≡ y)
 
--- ---- cards made before there was a year, which carry 0 in word 24
--- Under year 0 a block is written byte for byte as it was.
+-- Two true blocks with one mark have the same piece exactly where they have the same set and the same number in it.
+abbrev pub PieceTells : Type 0
+PieceTells = (b c : List ℕ) → TrueBlock b → TrueBlock c → wordAt b 1 ≡ wordAt c 1
+    → (pieceOf b ≡ pieceOf c) ↔ ((wordAt b 25 ≡ wordAt c 25) × (pieceNumber b ≡ pieceNumber c))
+
+-- Of the first scheme that is its number alone.
+abbrev pub FirstPiece : Type 0
+FirstPiece = (b : List ℕ) → TrueBlock b → wordAt b 1 ≡ 1987 → pieceOf b ≡ pieceNumber b
+
+-- Where a block is lent alone, none of a deal by sets is taken: what passes TORN, UNREAD and CHECK is HEADER at word 1.
+abbrev pub FirstOnly : Type 0
+FirstOnly = (b : List ℕ) (a r : ℕ) → length b ≡ 512 → Passed (slotLines b a) → wordAt b 1 ≡ 1988
+    → firstFail (oneLines b a) (done r) ≡ refused (number Header) a 1
+
+-- And what is taken is a true block of the first scheme, any such.
+abbrev pub OneMeans : Type 0
+OneMeans = (b : List ℕ) (a : ℕ) → Passed (oneLines b a) ↔ ((length b ≡ 512) × TrueBlock b × (wordAt b 1 ≡ 1987))
+
+-- ---- cards made before there were sets, and before there was a year: those carry 0 in word 24
+-- A block of the first scheme, under year 0 where there was none, is written byte for byte as it was.
 abbrev pub EarlierBlock : Type 0
-EarlierBlock = (l : Label) (vs : List ℕ) → l .deal .year ≡ 0 → length vs ≤ 16 → blockBytes l vs ≡ formerBytes l vs
+EarlierBlock = (dated : Bool) (l : Label) (vs : List ℕ) → l .mark ≡ 1987 → l .set ≡ 0 → (dated ≡ false → l .year ≡ 0) → length vs ≤ 16
+    → blockBytes l vs ≡ formerBytes dated l vs
 
--- Of a block whose word 24 is 0 the first wrong word is what it was.
+-- Of a block without the mark of a deal by sets the first wrong word is what it was.
 abbrev pub EarlierLayout : Type 0
-EarlierLayout = (b : List ℕ) → wordAt b 24 ≡ 0 → firstWrong b ≡ formerWrong b
+EarlierLayout = (dated : Bool) (b : List ℕ) → wordAt b 1 ≢ 1988 → (dated ≡ false → wordAt b 24 ≡ 0) → firstWrong b ≡ formerWrong dated b
 
--- And two deals of one year are told apart by what told them apart.
+-- And two deals of one mark are told apart by what told them apart.
 abbrev pub EarlierDeals : Type 0
-EarlierDeals = (x y : DealWords) → x .year ≡ y .year → sameDeal x y ≡ formerSame x y
+EarlierDeals = (dated : Bool) (x y : DealWords) → x .mark ≡ y .mark → (dated ≡ false → x .year ≡ y .year) → sameDeal x y ≡ formerSame dated x y

@@ -2,7 +2,7 @@
 -- Assumes nothing.
 use Prim.Native.Nat.{ℕ, _*_, _≤_}
 use mathlib.Core.Path.{_≡_}
-use mathlib.Core.Bool.{Bool, not}
+use mathlib.Core.Bool.{Bool, cond, not}
 use mathlib.Core.List.{List, [], _∷_, _++_}
 use lib.ListN.{length, take, drop}
 use lib.Dec.{eqb, ltb}
@@ -12,6 +12,7 @@ use Rattle.answer.specs.Checks.{Line, line, firstFail}
 use Rattle.lists.specs.Places.{firstIn, found}
 use Rattle.prime.specs.Prime.{tooLarge}
 use Rattle.block.specs.Words.{wordAt, checkOf, Small}
+use Rattle.block.specs.Deals.{marksSets}
 use Rattle.block.specs.Layout.{frontWords, widthOf, firstWrong, Layout}
 use Rattle.block.specs.declared.Words.{Words}
 use Rattle.block.specs.declared.Opened.{Opened}
@@ -53,9 +54,17 @@ blockLines b a = slotLines b a ++ header b a ∷ []
 abbrev pub tornBlock : List ℕ → Line
 tornBlock b = line Torn (not (eqb (length b) 512)) 0 0
 
--- 13, 15, 16 and 17 of such a block, which the call counts as block a
+-- the first word that is not as a block of the first scheme has it, or 0: of a block of a deal by sets that is word 1, whatever else is wrong
+unfoldable pub firstForeign : List ℕ → ℕ
+firstForeign b = cond (marksSets (wordAt b 1)) 1 (firstWrong b)
+
+-- 17 HEADER, where only blocks of the first scheme are taken
+abbrev pub foreign : List ℕ → ℕ → Line
+foreign b a = line Header (found (firstForeign b)) a (firstForeign b)
+
+-- 13, 15, 16 and 17 of a block that is lent alone and must be of the first scheme; the call counts it as block a
 abbrev pub oneLines : List ℕ → ℕ → List Line
-oneLines b a = tornBlock b ∷ blockLines b a
+oneLines b a = tornBlock b ∷ slotLines b a ++ foreign b a ∷ []
 
 -- opening the first block of a pile
 unfoldable pub opening : List ℕ → Outcome (List ℕ)

@@ -20,5 +20,5 @@ blockBytes l vs = bytesOf (body l vs) ++ bytesOf (checkOf (bytesOf (body l vs)) 
 -- what a block can be written from: a label in its ranges, as many values as it says, and no word above 32748
 pub record Buildable (l : Label) (vs : List ℕ) : Type 0 where
   pub ranged : Ranged l
-  pub counted : l .deal .width ≡ length vs
+  pub counted : l .width ≡ length vs
   pub small : (i : ℕ) → 1 ≤ i → i ≤ 255 → heldAt l vs i ≤ 32748

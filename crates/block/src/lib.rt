@@ -7,6 +7,7 @@ mod writing;
 use answer::Refusal;
 pub use deal::DealWords;
 pub use deal::deal_words;
+pub use deal::piece_of;
 pub use deal::same_deal;
 pub use reading::check_block;
 pub use reading::check_one;
@@ -33,11 +34,17 @@ pub struct Words {
     pub piece: u16,
 }
 
-// What a block is written from, beside the values of its piece.
+// What a block is written from, beside the values of its piece: words 1 to 7, 24 and 25.
 pub struct Label {
-    pub deal: DealWords,
+    pub mark: u16,
+    pub number: u16,
     pub holder: u16,
+    pub people: u16,
+    pub pieces: u16,
+    pub width: u16,
     pub piece: u16,
+    pub year: u16,
+    pub set: u16,
 }
 
 // What opening a block answers.

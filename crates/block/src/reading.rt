@@ -14,7 +14,7 @@ ghost use Rattle.answer.specs.Checks.{firstFail};
 ghost use Rattle.lists.specs.Places.{firstIn};
 ghost use Rattle.block.specs.Layout.{frontWords, within, rightAt, firstWrong};
 ghost use Rattle.block.specs.Inner.{filled};
-ghost use Rattle.block.specs.Open.{firstAbove, slotLines, blockLines, oneLines, opening, valueBytes, valueStart, wordsOf, opened};
+ghost use Rattle.block.specs.Open.{firstAbove, slotLines, blockLines, oneLines, firstForeign, opening, valueBytes, valueStart, wordsOf, opened};
 ghost use Rattle.block.specs.Inner.{cleanCheck};
 
 // What one pass over a block finds: the first word above 32748, or 0, and the check of words 1 to 255 where there is none.
@@ -63,14 +63,19 @@ fn right(b: &[u8], i: usize) -> bool
 {
     let v = word(b, i);
     match i {
-        1 => v == 1987,
+        1 => { if v == 1987 { true } else { v == 1988 } }
         2 => v != 0,
         3 => within(1, v, 8),
         4 => {
             let holder = word(b, 3);
             if within(1, v, 8) { holder <= v } else { false }
         }
-        5 => within(1, v, 70),
+        5 => {
+            let mark = word(b, 1);
+            let people = word(b, 4);
+            let most = if mark == 1988 { people } else { 70 };
+            within(1, v, most)
+        }
         6 => within(1, v, 16),
         _ => {
             let pieces = word(b, 5);
@@ -125,8 +130,22 @@ fn first_filled(b: &[u8], start: usize, end: usize) -> usize
     search_filled(b, start, end)
 }
 
-// The first of words 1 to 255 that is not as SCOPE 4 has it, or 0: words 1 to 7, then the words past the values, which are 0 on both sides of
-// the year.
+// Word 25 is none where the mark is the first scheme's, and a set of 1 to 70 where it is the other's.
+fn right_set(b: &[u8]) -> bool
+    requires { ⌜ 50 ≤ length (now b) ⌝ }
+    ensures { λ r. ⌜ r ≡ rightAt (now (b .entry)) 25 ⌝ }
+{
+    let mark = word(b, 1);
+    let set = word(b, 25);
+    if mark == 1988 {
+        within(1, set, 70)
+    } else {
+        set == 0
+    }
+}
+
+// The first of words 1 to 255 that is not as SCOPE 4 has it, or 0: words 1 to 7, then the words past the values, which are 0 but for the year and
+// the set.
 pub fn first_wrong(b: &[u8]) -> usize
     requires { ⌜ 510 ≤ length (now b) ⌝ }
     ensures { λ r. ⌜ r ≡ firstWrong (now (b .entry)) ⌝ }
@@ -145,7 +164,10 @@ pub fn first_wrong(b: &[u8]) -> usize
     if filled != 0 {
         return filled;
     }
-    first_filled(b, 25, 256)
+    if !right_set(b) {
+        return 25;
+    }
+    first_filled(b, 26, 256)
 }
 
 // The first block of the rest of a pile, which is block a, for UNREAD and CHECK.
@@ -181,14 +203,32 @@ pub fn check_block(rest: &[u8], a: usize) -> Answer
     Answer::Done(0)
 }
 
-// A block that is lent alone, block a of a call, for TORN, UNREAD, CHECK and HEADER.
+// The first word that is not as a block of the first scheme has it, or 0.
+fn first_foreign(b: &[u8]) -> usize
+    requires { ⌜ 510 ≤ length (now b) ⌝ }
+    ensures { λ r. ⌜ r ≡ firstForeign (now (b .entry)) ⌝ }
+{
+    if word(b, 1) == 1988 {
+        return 1;
+    }
+    first_wrong(b)
+}
+
+// A block that is lent alone and must be of the first scheme, block a of a call, for TORN, UNREAD, CHECK and HEADER.
 pub fn check_one(b: &[u8], a: usize) -> Answer
     ensures { λ r. ⌜ outcome r ≡ firstFail (oneLines (now (b .entry)) a) (done 0) ⌝ }
 {
     if b.len() != 512 {
         return answer::refuse(Kind::Torn, 0, 0);
     }
-    check_block(b, a)
+    if let Answer::Refused(r) = check_slots(b, a) {
+        return Answer::Refused(r);
+    }
+    let wrong = first_foreign(b);
+    if wrong != 0 {
+        return answer::refuse(Kind::Header, a, wrong);
+    }
+    Answer::Done(0)
 }
 
 // Words 1 to 7 of b.

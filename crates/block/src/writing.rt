@@ -25,16 +25,16 @@ fn body_word(i: usize, l: Label, values: &[u16]) -> u16
     requires { ⌜ (1 ≤ i) × (i ≤ 255) ⌝ }
     ensures { λ r. ⌜ r ≡ heldAt l (now (values .entry)) i ⌝ }
 {
-    let deal = l.deal;
     match i {
-        1 => 1987,
-        2 => deal.number,
+        1 => l.mark,
+        2 => l.number,
         3 => l.holder,
-        4 => deal.people,
-        5 => deal.pieces,
-        6 => deal.width,
+        4 => l.people,
+        5 => l.pieces,
+        6 => l.width,
         7 => l.piece,
-        24 => deal.year,
+        24 => l.year,
+        25 => l.set,
         _ => {
             let at = i - 8;
             if at < values.len() { values[at] } else { 0 }

@@ -29,7 +29,7 @@ use Rattle.pile.specs.Blocks.{blocks, restFrom}
 use Rattle.block.specs.Deals.{badNumber, badYear, sameDeal}
 use Rattle.joining.specs.Pile.{heapOf, inLargest, ownBlock, placeOf, differIn, present}
 use Rattle.pile.specs.Lines.{linesFrom, everyBlock}
-use Rattle.joining.specs.Checks.{mixedAt, contradicts, contradictedBy, conflictAt, pileLines}
+use Rattle.joining.specs.Checks.{mixedAt, otherValues, otherCount, contradicts, contradictedBy, conflictAt, pileLines}
 use Rattle.joining.specs.Joined.{joinLines, joining}
 use Rattle.cases.specs.Plain.{set}
 use Rattle.cases.specs.Table.{dealIn, deal11, words11, words2026, pile12}
@@ -62,5 +62,5 @@ dealt out room =
 
 -- no output is too short for SHORT: ROOM comes after it
 pub short-two : (room : ℕ) → joining pile12 room ≡ refused 20 2 3
-unfolding joining joinLines pileLines linesFrom everyBlock mixedAt contradicts contradictedBy conflictAt blocks restFrom heapOf inLargest ownBlock sameDeal placeOf differIn present firstFail firstFrom firstAbove rangeAt valuesOf rightAt firstWrong card flat blockFor heldBy dealPieces valuesIn value planning.held holds groupsBy those maximalBy tight authorised some each inside member set blockBytes body run heldAt bytesOf checkOf weighted wordAt
+unfolding joining joinLines pileLines linesFrom everyBlock mixedAt otherValues otherCount contradicts contradictedBy conflictAt blocks restFrom heapOf inLargest ownBlock sameDeal placeOf differIn present firstFail firstFrom firstAbove rangeAt valuesOf rightAt firstWrong card flat blockFor heldBy dealPieces valuesIn value planning.held holds groupsBy those maximalBy tight authorised some each inside member set blockBytes body run heldAt bytesOf checkOf weighted wordAt
 short-two room = refl

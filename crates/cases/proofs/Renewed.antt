@@ -22,7 +22,7 @@ use Rattle.planning.specs.Groups.{authorised, tight, maximalBy, groupsBy, holds
 use Rattle.block.specs.Words.{wordAt, bytesOf, weighted, checkOf}
 use Rattle.block.specs.Deals.{badNumber, badYear}
 use Rattle.block.specs.Layout.{heldAt, rangeAt, valuesOf, rightAt, firstWrong}
-use Rattle.block.specs.Open.{firstAbove}
+use Rattle.block.specs.Open.{firstAbove, firstForeign}
 use Rattle.block.specs.Written.{body, blockBytes}
 use Rattle.dealing.specs.Deal.{blockFor, dealPieces, heldBy, card}
 use Rattle.adding.specs.Sum.{pairOf, unlikeAt, sumOf}
@@ -39,7 +39,7 @@ the-sum = refl
 
 -- the two blocks add up into 512 bytes
 adds-in-512 : adding (card deal11 4) (card zeros11 4) (pairOf 9 0) 512 ≡ done 1
-unfolding adding addLines unlikeAt firstFail firstFrom firstAbove rangeAt rightAt firstWrong badNumber badYear samePair noRoom valuesOf card flat blockFor heldBy dealPieces valuesIn value planning.held holds groupsBy those maximalBy tight authorised some each inside member set blockBytes body run heldAt bytesOf checkOf weighted wordAt
+unfolding adding addLines unlikeAt firstFail firstFrom firstAbove rangeAt rightAt firstWrong firstForeign badNumber badYear samePair noRoom valuesOf card flat blockFor heldBy dealPieces valuesIn value planning.held holds groupsBy those maximalBy tight authorised some each inside member set blockBytes body run heldAt bytesOf checkOf weighted wordAt
 adds-in-512 = refl
 
 adds : (room : ℕ) → 512 ≤ room → adding (card deal11 4) (card zeros11 4) (pairOf 9 0) room ≡ done 1
@@ -51,6 +51,8 @@ adds room h =
         whole-two = y .whole-two;
         true-one = y .true-one;
         true-two = y .true-two;
+        mark-one = y .mark-one;
+        mark-two = y .mark-two;
         alike = y .alike;
         number-in = y .number-in;
         year-in = y .year-in;

@@ -1,16 +1,16 @@
 -- Groups of which none lies inside another are in different chains, so there are no more of them than chains.
 -- Assumes nothing.
-use mathlib.Core.Path.{_≡_, subst₂}
+use mathlib.Core.Path.{_≡_, sym, subst₂}
 use mathlib.Core.Bool.{true}
 use mathlib.Core.Logic.{_⊎_, ⊎-elim}
-use Prim.Native.Nat.{ℕ, _^_, _≤_, _<_}
-use native.Mathlib.Nat.{le-refl}
+use Prim.Native.Nat.{ℕ, zero, suc, _-_, _/_, _^_, _≤_, _<_}
+use native.Mathlib.Nat.{le-refl, not-suc-le-zero, le-of-suc-le-suc, div-one}
 use native.Mathlib.Omega.{arith}
 use lib.Pow.{pow-mono}
-use Rattle.chains.specs.Apart.{Apart, most}
-use Rattle.chains.specs.Laws.{FewApart, FewWithout}
+use Rattle.chains.specs.Apart.{digit, Apart, most}
+use Rattle.chains.specs.Laws.{FewApart, FewWithout, FewWith}
 use Rattle.chains.proofs.Pigeon.{pigeon}
-use Rattle.chains.proofs.TestLaws.{within, within-at, spread, narrow, chainOf, of-eight, of-seven, chain-lt, narrowed}
+use Rattle.chains.proofs.TestLaws.{digit-suc, within, within-at, spread, narrow, chainOf, of-eight, of-seven, chain-lt, narrowed}
 
 module _ (n k : ℕ) (g : ℕ → ℕ) (few : n ≤ 8) (h : Apart n k g) where
   -- none lies inside another
@@ -43,3 +43,23 @@ few-without p k g few h lacks =
     (λ i j a b c d e.
     subst₂ (λ (x y : ℕ). (within 8 x y ≡ true) ⊎ (within 8 y x ≡ true)) (back i a b .0) (back j c d .0)
     (of-seven p (narrow p (g i)) (narrow p (g j)) few (back i a b .1) (back j c d .1) e))
+
+-- ---- everybody else: 2 ^ n − 1 − g has the other digits
+others : (n p g : ℕ) → g < 2 ^ n → p < n → digit p (2 ^ n - 1 - g) ≡ 1 - digit p g
+others zero p g h l = absurd (not-suc-le-zero l)
+others (suc n) zero g h l = rw (div-one g, div-one (2 ^ suc n - 1 - g)) (omega arith)
+others (suc n) (suc p) g h l =
+    let e : (2 ^ suc n - 1 - g) / 2 ≡ 2 ^ n - 1 - g / 2 = omega arith in
+    rw (digit-suc p g, digit-suc p (2 ^ suc n - 1 - g), e) (others n p (g / 2) (omega arith) (le-of-suc-le-suc l))
+
+-- where none lies inside another, none of the groups of everybody else does
+pub few-with : FewWith
+few-with p k g few h has =
+    few-without p k (λ j. 2 ^ 8 - 1 - g j) few
+    (record {
+      known = λ j a b. omega arith;
+      apart = λ i j a b c d other.
+          let r = h .apart j i c d a b (λ e. other (sym e)) in
+          (r .0, r .1, omega (arith, others 8 (r .0) (g i) (h .known i a b) (r .1), r .3), omega (arith, others 8 (r .0) (g j) (h .known j c d) (r .1), r .2));
+    })
+    (λ j a b. omega (arith, others 8 p (g j) (h .known j a b) few, has j a b))

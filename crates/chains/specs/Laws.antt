@@ -11,3 +11,7 @@ FewApart = (n k : ℕ) (g : ℕ → ℕ) → n ≤ 8 → Apart n k g → k ≤ m
 -- If one of eight people is in none of them, they are groups of the seven others, and are 35 at most.
 abbrev pub FewWithout : Type 0
 FewWithout = (p k : ℕ) (g : ℕ → ℕ) → p < 8 → Apart 8 k g → ((j : ℕ) → 1 ≤ j → j ≤ k → digit p (g j) ≡ 0) → k ≤ 35
+
+-- And if one of them is in all of them, they are 35 at most too.
+abbrev pub FewWith : Type 0
+FewWith = (p k : ℕ) (g : ℕ → ℕ) → p < 8 → Apart 8 k g → ((j : ℕ) → 1 ≤ j → j ≤ k → digit p (g j) ≡ 1) → k ≤ 35

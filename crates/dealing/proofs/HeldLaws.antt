@@ -1,4 +1,4 @@
--- The pieces that a person holds, their values, what a card depends on, and what it was before the year.
+-- The pieces that a person holds, their values, what a card depends on, and what it was in the former layout.
 -- Assumes nothing.
 use Prim.Native.Nat.{ℕ, _-_, _≤_}
 use mathlib.Core.Path.{_≡_, refl, sym, ap, ap₂, _∙_}
@@ -66,10 +66,10 @@ module _ (d d′ : Deal) (holder : ℕ) (asked : askedOf d holder ≡ askedOf d�
       (map-same (blockOf d holder) (blockOf d′ holder) (heldBy d holder) (λ j m. block-same j (e j m))
       ∙ ap (map (blockOf d′ holder)) held-same)
 
--- ---- cards made earlier: under year 0 each block is the former one
+-- ---- cards made earlier: each block is the former one, under year 0 where there was no year
 pub earlier-cards : EarlierCards
 unfolding card blockFor label pieceValues
-earlier-cards d holder year few =
+earlier-cards dated d holder year few =
     ap flat
-    (map-same (blockFor (askedOf d holder) (dealPieces d) (d .secret) (d .random)) (λ j. formerBytes (label d holder j) (pieceValues d j)) (heldBy d holder)
-    (λ j m. earlier-block (label d holder j) (pieceValues d j) year (omega (arith, values-length d j))))
+    (map-same (blockFor (askedOf d holder) (dealPieces d) (d .secret) (d .random)) (λ j. formerBytes dated (label d holder j) (pieceValues d j)) (heldBy d holder)
+    (λ j m. earlier-block dated (label d holder j) (pieceValues d j) refl refl year (omega (arith, values-length d j))))

@@ -1,6 +1,7 @@
 pub mod HeldLaws
 pub mod InputLaws
 pub mod CardLaws
+pub mod LaidLaws
 pub mod DealLaws
 pub mod MadeLaws
 pub mod PlaceLaws

@@ -32,9 +32,15 @@ again d secret random = dealFrom (d .policy) (d .number) (d .year) secret random
 abbrev pub labelFor : Asked → ℕ → ℕ → ℕ → Label
 labelFor asked k width j =
     record {
-      deal = record { number = asked .number; people = asked .people; pieces = k; width = width; year = asked .year };
+      mark = 1987;
+      number = asked .number;
       holder = asked .holder;
+      people = asked .people;
+      pieces = k;
+      width = width;
       piece = j;
+      year = asked .year;
+      set = 0;
     }
 
 -- that block's 512 bytes: the values of piece j, made with k − 1 coefficients for each word of the secret

@@ -2,6 +2,7 @@
 -- Assumes nothing.
 use Prim.Native.Nat.{ℕ, _+_, _-_, _*_, _≤_, _<_}
 use mathlib.Core.Path.{_≡_}
+use mathlib.Core.Bool.{Bool, false}
 use mathlib.Core.List.{List, _++_, map}
 use mathlib.Core.Logic.{_≢_, _⊎_}
 use lib.ListN.{length, drop}
@@ -29,10 +30,10 @@ CardDepends = (d d′ : Deal) (holder : ℕ)
     → ((j : ℕ) → j ∈ heldBy d holder → pieceValues d j ≡ pieceValues d′ j)
     → card d holder ≡ card d′ holder
 
--- Under year 0 a card is byte for byte the card of the former layout.
+-- A card is byte for byte the card of the former layout; under year 0, of the layout before there was one.
 abbrev pub EarlierCards : Type 0
-EarlierCards = (d : Deal) (holder : ℕ) → d .year ≡ 0 → length (d .secret) ≤ 16
-    → card d holder ≡ flat (map (λ j. formerBytes (label d holder j) (pieceValues d j)) (heldBy d holder))
+EarlierCards = (dated : Bool) (d : Deal) (holder : ℕ) → (dated ≡ false → d .year ≡ 0) → length (d .secret) ≤ 16
+    → card d holder ≡ flat (map (λ j. formerBytes dated (label d holder j) (pieceValues d j)) (heldBy d holder))
 
 -- Every block of a card is true, and opens to its words and values.
 abbrev pub BlocksOpen : Type 0

@@ -2,7 +2,6 @@
 use crate::Asked;
 use answer::Answer;
 use answer::Kind;
-use block::DealWords;
 use block::Label;
 ghost use mathlib.Core.Path.{_≡_};
 ghost use mathlib.Core.List.{_++_};
@@ -50,17 +49,16 @@ fn write_piece(
 {
     let width = secret.len();
     let made = field::values_of(secret, random, k - 1, j as u16);
-    let deal = DealWords {
+    let label = Label {
+        mark: 1987,
         number: asked.number as u16,
+        holder: asked.holder as u16,
         people: asked.people as u16,
         pieces: k as u16,
         width: width as u16,
-        year: asked.year as u16,
-    };
-    let label = Label {
-        deal: deal,
-        holder: asked.holder as u16,
         piece: j as u16,
+        year: asked.year as u16,
+        set: 0,
     };
     block::write_at(out, at, label, &made[..width]);
 }

@@ -4,6 +4,7 @@ mod card;
 mod checks;
 
 use answer::Answer;
+pub use checks::check_inputs;
 ghost use mathlib.Core.Path.{_≡_};
 ghost use Prim.Native.Nat.{_-_, _≤_};
 ghost use lib.ListN.{length};

@@ -18,17 +18,17 @@ use Rattle.dealing.proofs.HeldLaws.{held-in}
 use Rattle.dealing.proofs.MadeLaws.{InRange}
 use Rattle.pile.specs.Blocks.{blocks}
 use Rattle.joining.specs.Pile as Pile
-use Rattle.joining.specs.Pile.{placeOf, valueAt}
+use Rattle.joining.specs.Pile.{placeOf, valueOf, valueAt}
 use Rattle.joining.specs.Joined.{joining}
 use Rattle.field.specs.Secret.{column, secretOf}
 use Rattle.joining.specs.Secret.{secret}
 use Rattle.joining.specs.Laws.{Joins}
-use Rattle.joining.proofs.SoundLaws.{place-held, place-has}
+use Rattle.joining.proofs.ChosenLaws.{place-held, place-has, first-chosen, first-place}
 use Rattle.joining.proofs.Laws.{lacks-then, no-blocks}
 use Rattle.demands.specs.Group.{Group, Contains, Member, gathers, gathered}
 use Rattle.demands.specs.Demand3.{shortOf}
 use Rattle.demands.proofs.GroupLaws.{all-held, not-gathered, gathers-by, gathers-who}
-use Rattle.demands.proofs.ReadLaws.{Reads, sound, pieces-are, width-is, value-is, no-place, present-are}
+use Rattle.demands.proofs.ReadLaws.{Reads, no-set, piece-is, not-sets, sound, pieces-are, width-is, value-is, no-place, present-are}
 
 pub short-says : (c k : ℕ) → 1 ≤ c → refused 20 c k ≡ shortOf c k
 short-says zero k h = absurd (omega arith)
@@ -55,7 +55,10 @@ module _ (d : Deal) (f : InRange d) (g : ℕ) (group : Group d g) (pile : List �
     joins room h = record {
       sound = sound r;
       some = some-block;
-      complete = λ j l u. let m = held-by j l (omega (arith, pieces-are r some-block)) in r .all (m .0) j (m .1) (m .2);
+      complete = λ j l u.
+          let m = held-by j l (omega (arith, pieces-are r some-block)) in
+          let a = r .all (m .0) j (m .1) (m .2) in
+          (a .0, a .1, no-set r (a .0) (a .1) ∙ sym (first-chosen pile (not-sets r some-block)), a .2);
       fits = omega (arith, width-is r some-block);
       is = width-is r some-block;
     }
@@ -66,8 +69,8 @@ module _ (d : Deal) (f : InRange d) (g : ℕ) (group : Group d g) (pile : List �
     value-there i j l u l′ u′ =
         let m = held-by j l′ u′ in
         let a = r .all (m .0) j (m .1) (m .2) in
-        let p = place-has pile j (place-held pile j (a .0) (a .1) (a .2)) in
-        value-is r (placeOf pile j) i (p .0) l u ∙ ap (λ (x : ℕ). getD (pieceValues d x) (i - 1) 0) (p .1)
+        let p = place-has pile j (place-held pile j (a .0) (a .1) (piece-is r (a .0) (a .1) ∙ a .2)) in
+        ap (λ (a : ℕ). valueOf pile a i) (first-place pile (not-sets r some-block) j) ∙ value-is r (placeOf pile j) i (p .0) l u ∙ ap (λ (x : ℕ). getD (pieceValues d x) (i - 1) 0) (p .1)
 
     -- the values i of all pieces join to word i
     word-joined : (i : ℕ) → 1 ≤ i → i ≤ length (d .secret) → getD (d .secret) (i - 1) 0 ≡ joined (column (valueAt pile) (Pile.ownPieces pile) i)
@@ -114,7 +117,7 @@ module _ (d : Deal) (f : InRange d) (g : ℕ) (group : Group d g) (pile : List �
     short-some : 1 ≤ blocks pile → joining pile room ≡ shortOf (length (gathered d g)) (dealPieces d)
     short-some some =
         let l = not-gathered d g (f .ready .few) group n in
-        lacks-then pile room (l .0) (sound r) some (l .1) (omega (arith, l .2, pieces-are r some)) (no-place r (l .0) (l .3))
+        lacks-then pile room (l .0) (sound r) some (not-sets r some) (l .1) (omega (arith, l .2, pieces-are r some)) (no-place r (l .0) (l .3))
         ∙ ap₂ (λ (x : List ℕ) (k : ℕ). refused 20 (length x) k) (present-are r some) (pieces-are r some)
         ∙ short-says (length (gathered d g)) (dealPieces d) (some-held some)
 

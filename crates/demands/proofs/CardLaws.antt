@@ -1,5 +1,5 @@
--- Block a of a card, where it stands on the card, is that of the a-th piece that the holder has; and every block of whole cards is of 512
--- bytes. Assumes nothing.
+-- Block a of a card, where it stands on the card, is that of the a-th piece that the holder has; and every block is of 512 bytes.
+-- Assumes nothing.
 use Prim.Native.Nat.{ℕ, _-_, _*_, _≤_}
 use mathlib.Core.Path.{_≡_, sym, ap, _∙_}
 use mathlib.Core.List.{List, _++_, Memᴰ·of-map}
@@ -9,7 +9,6 @@ use Rattle.lists.specs.Places.{at}
 use Rattle.lists.proofs.ThoseLaws.{at-in}
 use Rattle.dealing.specs.Deal.{Deal, heldBy, blockOf, cardBlocks, card}
 use Rattle.dealing.proofs.MadeLaws.{InRange, block-length}
-use Rattle.demands.specs.Group.{Member, CardsOf}
 use Rattle.demands.specs.Demand2.{CardBlock}
 use Rattle.demands.proofs.BlockLaws.{card-block}
 use Rattle.lists.proofs.FlatLaws.{Long, flat-drop, map-at}
@@ -20,9 +19,6 @@ module _ (d : Deal) where
   card-long holder = record {
     long = λ b m. let r = Memᴰ·of-map (blockOf d holder) (heldBy d holder) m in ap length (sym (r .2)) ∙ block-length d holder (r .0);
   }
-
-  pub cards-long : (g : ℕ) (bs : List (List ℕ)) → CardsOf (cardBlocks d) (Member d g) bs → Long 512 bs
-  cards-long g bs c = record { long = λ b m. let r = c .theirs b m in card-long (r .0) .long b (r .2) }
 
 module _ (d : Deal) (f : InRange d) (holder : ℕ) (least : 1 ≤ holder) (most : holder ≤ d .policy .people) where
   pub block-at : (a : ℕ) → 1 ≤ a → a ≤ length (heldBy d holder) → CardBlock d holder (at (heldBy d holder) a) (drop (512 * (a - 1)) (card d holder))

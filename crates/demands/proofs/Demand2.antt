@@ -1,5 +1,5 @@
 -- Demand 2, proved: each statement by its name in specs/Demand2.antt. Assumes nothing.
-use mathlib.Core.Path.{refl, ap, _∙_}
+use mathlib.Core.Path.{refl, sym, ap, _∙_}
 use mathlib.Core.List.{List}
 use Prim.Native.Nat.{ℕ, _-_}
 use native.Mathlib.Omega.{arith}
@@ -17,13 +17,13 @@ use Rattle.dealing.specs.Dealt.{Made, blockCount}
 use Rattle.dealing.proofs.HeldLaws.{held-in, in-held}
 use Rattle.dealing.proofs.MadeLaws.{made-in-range, made-holder}
 use Rattle.dealing.proofs.Laws as dealing
+use Rattle.bysets.proofs.ByteLaws.{each-word}
 use Rattle.joining.specs.Secret.{secret}
 use Rattle.joining.proofs.Laws as joining
 use Rattle.demands.specs.Demand2 as demand
 use Rattle.demands.proofs.GroupLaws.{all-held, held-all}
 use Rattle.demands.proofs.PieceLaws.{is-maximal, maximal-is}
 use Rattle.demands.proofs.CardLaws.{block-at}
-use Rattle.demands.proofs.OneBlock.{each-word}
 
 pub the-pieces : demand.ThePieces
 unfolding dealPieces
@@ -51,7 +51,7 @@ pub who-opens : demand.WhoOpens
 who-opens d made g group = let few = made-in-range d made .ready .few in (all-held d g few group, held-all d g few group)
 
 pub one-block : demand.OneBlock
-one-block d holder j b c x y = each-word x y
+one-block d holder j b c x y = each-word b c (λ i l u. x .words i l u ∙ sym (y .words i l u)) (x .check) (y .check)
 
 pub every-byte : demand.EveryByte
 unfolding blockCount

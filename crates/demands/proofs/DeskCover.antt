@@ -8,7 +8,7 @@ use lib.Dec.{eqb}
 use borrow.Author.Tests.{eqb-true, not-false}
 use Rattle.answer.specs.Outcome.{Outcome, done, refused}
 use Rattle.lists.proofs.Truth.{decided}
-use Rattle.block.specs.Layout.{pieceOf}
+use Rattle.block.specs.Layout.{pieceNumber}
 use Rattle.block.specs.Open.{byOutcome}
 use Rattle.desk.specs.declared.Desk.{Desk}
 use Rattle.desk.specs.Opens.{wordsOf}
@@ -20,16 +20,16 @@ use Rattle.demands.proofs.DeskHistory.{HoldsAt, holds-after}
 use Rattle.demands.specs.DeskBlocks.{blocksAfter, each, brings, ifNew, handedIn, blocksIn}
 
 pub record Covers (bs hs : List (List ℕ)) : Type 0 where
-  pub back : (b : List ℕ) → List·Memᴰ b hs → (x : List ℕ) × List·Memᴰ x bs × (pieceOf x ≡ pieceOf b)
+  pub back : (b : List ℕ) → List·Memᴰ b hs → (x : List ℕ) × List·Memᴰ x bs × (pieceNumber x ≡ pieceNumber b)
   pub into : (b : List ℕ) → List·Memᴰ b bs → List·Memᴰ b hs
 
 none : Covers [] []
 none = record { back = λ b m. absurd (List·Memᴰ·not-nil m); into = λ b m. m }
 
 -- a block with a piece that some block has
-more : (b : List ℕ) (bs hs : List (List ℕ)) → Covers bs hs → (x : List ℕ) × List·Memᴰ x bs × (pieceOf x ≡ pieceOf b) → Covers bs (b ∷ hs)
+more : (b : List ℕ) (bs hs : List (List ℕ)) → Covers bs hs → (x : List ℕ) × List·Memᴰ x bs × (pieceNumber x ≡ pieceNumber b) → Covers bs (b ∷ hs)
 more b bs hs v r = record {
-  back = λ y m. ⊎-elim (λ (q : y ≡ b). (r .0, r .1, r .2 ∙ ap pieceOf (sym q))) (λ (n : List·Memᴰ y hs). v .back y n) (List·Memᴰ·cases-cons m);
+  back = λ y m. ⊎-elim (λ (q : y ≡ b). (r .0, r .1, r .2 ∙ ap pieceNumber (sym q))) (λ (n : List·Memᴰ y hs). v .back y n) (List·Memᴰ·cases-cons m);
   into = λ y m. List·Memᴰ·tail (v .into y m);
 }
 
@@ -37,7 +37,7 @@ more b bs hs v r = record {
 both-more : (b : List ℕ) (bs hs : List (List ℕ)) → Covers bs hs → Covers (b ∷ bs) (b ∷ hs)
 both-more b bs hs v = record {
   back = λ y m.
-      ⊎-elim (λ (q : y ≡ b). (b, List·Memᴰ·head refl, ap pieceOf (sym q)))
+      ⊎-elim (λ (q : y ≡ b). (b, List·Memᴰ·head refl, ap pieceNumber (sym q)))
       (λ (n : List·Memᴰ y hs). let r = v .back y n in (r .0, List·Memᴰ·tail (r .1), r .2)) (List·Memᴰ·cases-cons m);
   into = λ y m. ⊎-elim (λ (q : y ≡ b). List·Memᴰ·head q) (λ (n : List·Memᴰ y bs). List·Memᴰ·tail (v .into y n)) (List·Memᴰ·cases-cons m);
 }
@@ -56,7 +56,7 @@ module _ (c : ℕ) (d : Desk) (bs hs : List (List ℕ)) (h : HoldsAt d c bs) (v 
       go (done n) e false q =
           let r = hand-passed (d .slots) (wordsOf d c) c b n e in
           let p = front-piece (wordsOf d c) c b (r .front) in
-          more b bs hs v (h .back (pieceOf b) (p .0) (p .1) (not-false (keeps (d .slots) c (wordsOf d c .width) (pieceOf b)) q))
+          more b bs hs v (h .back (pieceNumber b) (p .0) (p .1) (not-false (keeps (d .slots) c (wordsOf d c .width) (pieceNumber b)) q))
 
   whose : (y : ℕ) (p q : ℕ → List (List ℕ)) → Covers (p c) (q c) → Covers (cond (eqb y c) (p y) bs) (cond (eqb y c) (q y) hs)
   whose y p q f =

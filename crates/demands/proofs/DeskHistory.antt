@@ -9,7 +9,7 @@ use lib.Dec.{eqb}
 use borrow.Author.Tests.{eqb-true, eqb-false, not-true, not-false}
 use Rattle.answer.specs.Outcome.{Outcome, done, refused}
 use Rattle.lists.proofs.Truth.{decided}
-use Rattle.block.specs.Layout.{pieceOf}
+use Rattle.block.specs.Layout.{pieceNumber}
 use Rattle.block.specs.Open.{byOutcome}
 use Rattle.desk.specs.declared.Opening.{Opening}
 use Rattle.desk.specs.declared.Desk.{Desk}
@@ -78,11 +78,11 @@ module _ (c : ℕ) (k : Client c) (d : Desk) (s : Sound d) (bs : List (List ℕ)
       go (refused m u w) e y q = h
       go (done v) e true q =
           let r = hand-passed (d .slots) (wordsOf d c) c b v e in
-          holds-new (d .slots) (wordsOf d c) c b (s .size) (r .front) bs h (not-true (keeps (d .slots) c (wordsOf d c .width) (pieceOf b)) q)
+          holds-new (d .slots) (wordsOf d c) c b (s .size) (r .front) bs h (not-true (keeps (d .slots) c (wordsOf d c .width) (pieceNumber b)) q)
       go (done v) e false q =
           let r = hand-passed (d .slots) (wordsOf d c) c b v e in
           holds-alike (d .slots) (handSlots (d .slots) (wordsOf d c) c b) (wordsOf d c) c bs
-          (again-alike (d .slots) (wordsOf d c) c b (s .size) (r .front) (not-false (keeps (d .slots) c (wordsOf d c .width) (pieceOf b)) q) (r .agrees)) h
+          (again-alike (d .slots) (wordsOf d c) c b (s .size) (r .front) (not-false (keeps (d .slots) c (wordsOf d c .width) (pieceNumber b)) q) (r .agrees)) h
 
   closed-holds : HoldsAt (closeDesk d c) c (byOutcome (closeAt d c) [] bs)
   unfolding closeDesk

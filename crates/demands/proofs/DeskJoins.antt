@@ -22,19 +22,22 @@ use Rattle.field.specs.Joined.{joined}
 use Rattle.field.specs.Secret.{column, secretOf}
 use Rattle.block.specs.declared.deal.DealWords.{DealWords}
 use Rattle.block.specs.Words.{wordAt}
-use Rattle.block.specs.Deals.{dealWords}
-use Rattle.block.specs.Layout.{pieceOf}
+use Rattle.block.specs.Deals.{marksSets}
+use Rattle.block.specs.Layout.{pieceNumber}
+use Rattle.block.proofs.RangeLaws.{first-set}
 use Rattle.block.proofs.OnlyLaws.{only-true}
 use Rattle.block.proofs.WordLaws.{word-front}
 use Rattle.pile.specs.Blocks.{blocks, In, restFrom, word, dealAt, TrueBlocks}
 use Rattle.pile.proofs.PileLaws.{rest-long}
-use Rattle.joining.specs.Pile.{ownBlock, ownPieces, ownWidth, pieceAt, placeOf, valueOf, valueAt, present}
+use Rattle.joining.specs.Pile.{ownBlock, ownDeal, ownWidth, inSets, piecesAt, numberAt, pieceAt, placeOf, ownPieces, valueOf, valueAt, present}
 use Rattle.joining.specs.Checks.{short}
 use Rattle.joining.specs.Secret.{secret}
 use Rattle.joining.specs.Joined.{joining, joinedInto}
 use Rattle.joining.specs.Laws.{Sound}
 use Rattle.joining.proofs.HeapLaws.{own-in}
-use Rattle.joining.proofs.SoundLaws.{sound-then, place-has, place-held}
+use Rattle.joining.proofs.ChosenLaws.{place-has, place-held, first-pieces, first-place}
+use Rattle.joining.proofs.ShortLaws.{short-first}
+use Rattle.joining.proofs.SoundLaws.{sound-then}
 use Rattle.desk.specs.declared.Opening.{Opening}
 use Rattle.desk.specs.Opens.{accepted, openingOf}
 use Rattle.desk.specs.Slots.{valueIn, keeps, distinct, secretFor}
@@ -43,11 +46,12 @@ use Rattle.desk.specs.Inner.{AllKept}
 use Rattle.desk.specs.History.{Client}
 use Rattle.desk.proofs.WordLaws.{ranged, is-client, alike-same}
 use Rattle.desk.proofs.ChainLaws.{fromShort, is-short, ask-passed}
+use Rattle.demands.proofs.BlockLaws.{first-count}
 use Rattle.demands.proofs.DeskHolds.{Holds}
 
 -- the words of an opening, as those of a deal
 abbrev asDeal : Opening → DealWords
-asDeal o = record { number = o .deal; people = o .people; pieces = o .pieces; width = o .width; year = o .year }
+asDeal o = record { mark = 1987; number = o .deal; people = o .people; pieces = o .pieces; width = o .width; year = o .year }
 
 module _ (slots : List ℕ) (o : Opening) (c : ℕ) (bs : List (List ℕ)) (who : Client c) (good : accepted o ≡ true) (h : Holds slots o c bs) where
   long : Long 512 bs
@@ -92,19 +96,35 @@ module _ (slots : List ℕ) (o : Opening) (c : ℕ) (bs : List (List ℕ)) (who 
   deal-of a p =
       let r = block-of a p in
       let w = r .2 .words in
-      let same : dealAt (flat bs) a ≡ dealWords (r .0)
+      let f = h .each (r .0) (r .1) in
+      let mark : word (flat bs) a 1 ≡ 1987 = w 1 (omega arith) (omega arith) ∙ f .mark in
+      let pieces : dealAt (flat bs) a .pieces ≡ wordAt (r .0) 5 = first-count (restFrom (flat bs) a) mark ∙ w 5 (omega arith) (omega arith) in
+      let same : dealAt (flat bs) a ≡ asDeal (openingOf (r .0))
       = λ i.
       record {
+        mark = mark i;
         number = w 2 (omega arith) (omega arith) i;
         people = w 4 (omega arith) (omega arith) i;
-        pieces = w 5 (omega arith) (omega arith) i;
+        pieces = pieces i;
         width = w 6 (omega arith) (omega arith) i;
         year = w 24 (omega arith) (omega arith) i;
       } in
-      same ∙ ap asDeal (alike-same (openingOf (r .0)) o (h .each (r .0) (r .1) .deal))
+      same ∙ ap asDeal (alike-same (openingOf (r .0)) o (f .deal))
+
+  count-is : (a : ℕ) → In (flat bs) a → piecesAt (flat bs) a ≡ o .pieces
+  count-is a p =
+      let r = block-of a p in
+      r .2 .words 5 (omega arith) (omega arith) ∙ ap (λ (x : Opening). x .pieces) (alike-same (openingOf (r .0)) o (h .each (r .0) (r .1) .deal))
+
+  -- no block is of a set, so its piece is that of its number
+  piece-is : (a : ℕ) → In (flat bs) a → pieceAt (flat bs) a ≡ numberAt (flat bs) a
+  piece-is a p =
+      let r = block-of a p in
+      let f = h .each (r .0) (r .1) in
+      omega (arith, r .2 .words 25 (omega arith) (omega arith), first-set (f .block) (f .mark))
 
   -- value i of block a, by the slot of its piece
-  value-is : (a i : ℕ) → In (flat bs) a → 1 ≤ i → i ≤ o .width → valueOf (flat bs) a i ≡ valueIn slots c (pieceAt (flat bs) a) i
+  value-is : (a i : ℕ) → In (flat bs) a → 1 ≤ i → i ≤ o .width → valueOf (flat bs) a i ≡ valueIn slots c (numberAt (flat bs) a) i
   value-is a i p l u =
       let r = block-of a p in
       let w = ranged o good .width .1 in
@@ -122,8 +142,14 @@ module _ (slots : List ℕ) (o : Opening) (c : ℕ) (bs : List (List ℕ)) (who 
     own : In (flat bs) (ownBlock (flat bs))
     own = own-in (flat bs) (omega (arith, how-many))
 
+    not-sets : inSets (flat bs) ≡ false
+    not-sets = ap (λ (d : DealWords). marksSets (d .mark)) (deal-of (ownBlock (flat bs)) own)
+
+    deal-pieces : ownDeal (flat bs) .pieces ≡ o .pieces
+    deal-pieces = ap (λ (d : DealWords). d .pieces) (deal-of (ownBlock (flat bs)) own)
+
     pieces-are : ownPieces (flat bs) ≡ o .pieces
-    pieces-are = ap (λ (d : DealWords). d .pieces) (deal-of (ownBlock (flat bs)) own)
+    pieces-are = first-pieces (flat bs) not-sets ∙ deal-pieces
 
     width-is : ownWidth (flat bs) ≡ o .width
     width-is = ap (λ (d : DealWords). d .width) (deal-of (ownBlock (flat bs)) own)
@@ -134,9 +160,10 @@ module _ (slots : List ℕ) (o : Opening) (c : ℕ) (bs : List (List ℕ)) (who 
       few = omega (arith, how-many, few, ranged o good .pieces .1);
       blocks-true = trues;
       one-deal = λ a b p q. deal-of a p ∙ sym (deal-of b q);
+      one-count = λ a b p q e. count-is a p ∙ sym (count-is b q);
       agree = λ a b p q e i l m.
           let u : i ≤ o .width = omega (arith, width-is) in
-          value-is a i p l u ∙ ap (λ (j : ℕ). valueIn slots c j i) e ∙ sym (value-is b i q l u);
+          value-is a i p l u ∙ ap (λ (j : ℕ). valueIn slots c j i) (sym (piece-is a p) ∙ e ∙ piece-is b q) ∙ sym (value-is b i q l u);
     }
 
     -- a piece is in the pile exactly where it is kept
@@ -144,19 +171,19 @@ module _ (slots : List ℕ) (o : Opening) (c : ℕ) (bs : List (List ℕ)) (who 
     found-kept j l m true t =
         let r = h .back j l m t in
         let a = place-of (r .0) (r .1) in
-        let g = place-held (flat bs) j (a .0) (a .1) (a .2 .words 7 (omega arith) (omega arith) ∙ r .2) in
+        let g = place-held (flat bs) j (a .0) (a .1) (piece-is (a .0) (a .1) ∙ a .2 .words 7 (omega arith) (omega arith) ∙ r .2) in
         found-some {a = placeOf (flat bs) j} (λ z. omega arith)
     found-kept j l m false t =
         isn't (λ e.
         let p = place-has (flat bs) j (some-found (placeOf (flat bs) j) e) in
         let r = block-of (placeOf (flat bs) j) (p .0) in
-        let q : pieceOf (r .0) ≡ j = sym (r .2 .words 7 (omega arith) (omega arith)) ∙ p .1 in
+        let q : pieceNumber (r .0) ≡ j = sym (r .2 .words 7 (omega arith) (omega arith)) ∙ sym (piece-is (placeOf (flat bs) j) (p .0)) ∙ p .1 in
         false≢true (sym t ∙ ap (keeps slots c (o .width)) (sym q) ∙ h .kept (r .0) (r .1)))
 
     present-is : length (present (flat bs)) ≡ distinct slots o c
     unfolding present distinct
     present-is =
-        ap (λ (k : ℕ). length (those (λ j. found (placeOf (flat bs) j)) 1 k)) pieces-are
+        ap (λ (k : ℕ). length (those (λ j. found (placeOf (flat bs) j)) 1 k)) deal-pieces
         ∙ ap length (those-same (λ j. found (placeOf (flat bs) j)) (keeps slots c (o .width)) 1 (o .pieces) (λ j l m. found-kept j l (omega arith) (keeps slots c (o .width) j) refl))
 
     -- SHORT and ROOM of the pile are those of asking
@@ -166,7 +193,7 @@ module _ (slots : List ℕ) (o : Opening) (c : ℕ) (bs : List (List ℕ)) (who 
     unfolding firstFail noRoom
     rest-is room =
         let z : eqb (blocks (flat bs)) 0 ≡ false = ne-eqb (blocks (flat bs)) 0 (λ e. omega (arith, how-many)) in
-        rw (z, present-is, pieces-are, width-is)
+        rw (short-first (flat bs) not-sets, z, present-is, deal-pieces, width-is)
 
   ask-is : (room : ℕ) → askSays slots o c room ≡ firstFail (fromShort slots o c room) (done (o .width))
   unfolding askSays askLines closeLines
@@ -186,7 +213,11 @@ module _ (slots : List ℕ) (o : Opening) (c : ℕ) (bs : List (List ℕ)) (who 
         = λ j l m. place-has (flat bs) j (some-found (placeOf (flat bs) j) (found-kept some j l m true (k .all j l m))) in
         run-same (λ i. joined (column (valueIn slots c) (o .pieces) i)) (λ i. joined (column (valueAt (flat bs)) (o .pieces) i)) (o .width)
         (λ i l m. ap joined (run-same (λ j. valueIn slots c j i) (λ j. valueAt (flat bs) j i) (o .pieces)
-        (λ j u v. sym (value-is (placeOf (flat bs) j) i (at j u v .0) l m ∙ ap (λ (x : ℕ). valueIn slots c x i) (at j u v .1)))))
+        (λ j u v.
+        let q = at j u v in
+        sym (ap (λ (a : ℕ). valueOf (flat bs) a i) (first-place (flat bs) (not-sets some) j)
+        ∙ value-is (placeOf (flat bs) j) i (q .0) l m
+        ∙ ap (λ (x : ℕ). valueIn slots c x i) (sym (piece-is (placeOf (flat bs) j) (q .0)) ∙ q .1)))))
         ∙ ap₂ (λ (k w : ℕ). secretOf (valueAt (flat bs)) k w) (sym (pieces-are some)) (sym (width-is some))
 
     pub into-same : (old : List ℕ) → askInto slots o c old ≡ joinedInto (flat bs) old

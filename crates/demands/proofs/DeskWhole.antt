@@ -9,7 +9,7 @@ use Rattle.lists.specs.Some.{_∈_}
 use Rattle.lists.proofs.FlatLaws.{Long, flat-length, flat-drop}
 use Rattle.lists.proofs.ThoseLaws.{at-in, in-at}
 use Rattle.block.specs.Words.{wordAt}
-use Rattle.block.specs.Layout.{pieceOf}
+use Rattle.block.specs.Layout.{pieceNumber}
 use Rattle.block.specs.Open.{TrueBlock}
 use Rattle.block.proofs.WordLaws.{word-front}
 use Rattle.dealing.specs.Deal.{Deal, heldBy, blockOf, cardBlocks}
@@ -17,7 +17,7 @@ use Rattle.dealing.proofs.MadeLaws.{InRange}
 use Rattle.pile.specs.Blocks.{blocks, restFrom}
 use Rattle.demands.specs.Group.{Member, CardsOf}
 use Rattle.demands.specs.Demand2.{CardBlock}
-use Rattle.demands.proofs.BlockLaws.{block-true, card-block, piece-is}
+use Rattle.demands.proofs.BlockLaws.{block-true, card-block, number-is}
 use Rattle.demands.proofs.ReadLaws.{Reads}
 use Rattle.demands.proofs.DeskCover.{Covers}
 
@@ -30,8 +30,8 @@ module _ (d : Deal) (f : InRange d) (g : ℕ) (bs hs : List (List ℕ)) (w : Car
   at-block a l u = flat-drop bs long (a - 1) (omega arith)
 
   -- the piece of a card's block
-  piece-of : (i j : ℕ) → Member d g i → j ∈ heldBy d i → pieceOf (blockOf d i j) ≡ j
-  piece-of i j m has = ap pieceOf (sym (append-nil (blockOf d i j))) ∙ piece-is (card-block d f i j (m .least) (m .most) has [])
+  piece-of : (i j : ℕ) → Member d g i → j ∈ heldBy d i → pieceNumber (blockOf d i j) ≡ j
+  piece-of i j m has = ap pieceNumber (sym (append-nil (blockOf d i j))) ∙ number-is (card-block d f i j (m .least) (m .most) has [])
 
   pub whole-reads : Reads d g (flat bs)
   unfolding blocks cardBlocks

@@ -14,6 +14,7 @@ use Rattle.demands.specs.Group.{members, gathers, gathered}
 use Rattle.demands.specs.Renewal as demand
 use Rattle.demands.proofs.LineLaws.{ends}
 use Rattle.demands.proofs.Demand3.{opens, short, nobody-alone}
+use Rattle.demands.proofs.RenewalSums.{summed}
 use Rattle.demands.proofs.RenewalJoins.{sums-join, secret-sum}
 use Rattle.demands.proofs.RenewalCards.{renewed-made, each-accepted, new-card, contains-there, contains-back, one-there, whole-cards}
 use Rattle.demands.proofs.RenewalHiding.{hidden}
@@ -35,8 +36,8 @@ pub sum-joins : demand.SumJoins
 sum-joins one two new room w v same accepted e f =
     let t = then-joins one room w e in
     let s = then-joins two room v f in (
-      joins-then (demand.sumPile one two new) room w (sums-join one two new same accepted room w v t s),
-      secret-sum one two new same accepted room w v t s,
+      joins-then (demand.sumPile one two new) room w (sums-join (summed one two new same accepted) room w v t s),
+      secret-sum (summed one two new same accepted) room w v t s,
     )
 
 pub old-and-new : demand.OldAndNew

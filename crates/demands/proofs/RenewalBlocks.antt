@@ -121,6 +121,8 @@ module _ (d : Deal) (own : Pair) (random : List ℕ) (new : Pair) (r : Renewal d
           whole-two = block-length z i j;
           true-one = own-true d old-in i j least most has;
           true-two = own-true z zero-in i j least most zero-has;
+          mark-one = ap (λ (l : Label). l .mark) (one .1);
+          mark-two = ap (λ (l : Label). l .mark) (two .1);
           alike = λ a low high.
               one .0 a (omega arith) (omega arith)
               ∙ held-alike (label d i j) own (pieceValues d j) (pieceValues z j) a low high
@@ -128,8 +130,8 @@ module _ (d : Deal) (own : Pair) (random : List ℕ) (new : Pair) (r : Renewal d
               ∙ sym (two .0 a (omega arith) (omega arith));
           number-in = r .number-in;
           year-in = r .year-in;
-          unlike-one = λ e. r .unlike-old (e ∙ ap (λ (l : Label). pairOf (l .deal .number) (l .deal .year)) (one .1));
-          unlike-two = λ e. r .unlike-zero (e ∙ ap (λ (l : Label). pairOf (l .deal .number) (l .deal .year)) (two .1));
+          unlike-one = λ e. r .unlike-old (e ∙ ap (λ (l : Label). pairOf (l .number) (l .year)) (one .1));
+          unlike-two = λ e. r .unlike-zero (e ∙ ap (λ (l : Label). pairOf (l .number) (l .year)) (two .1));
           fits = le-refl 512;
         }
 

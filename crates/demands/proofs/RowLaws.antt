@@ -1,8 +1,8 @@
--- Cards laid one after another are a pile made of whole cards; and each member's card once is at most 560 blocks.
--- Assumes nothing.
+-- Cards laid one after another are a pile made of whole cards, whatever the blocks of each holder's card are; and each member's card once is at
+-- most 560 blocks. Assumes nothing.
 use Prim.Native.Nat.{ℕ, _*_, _≤_, zero-le}
-use mathlib.Core.Path.{_≡_, refl, sym, ap, subst, _∙_}
-use mathlib.Core.List.{List, [], _∷_, _++_, List·Memᴰ, List·Memᴰ·head, List·Memᴰ·tail, List·Memᴰ·not-nil, List·Memᴰ·cases-cons, List·Memᴰ·append-cases, Memᴰ·append-left, Memᴰ·append-right}
+use mathlib.Core.Path.{_≡_, refl, sym, ap, ap₂, subst, _∙_}
+use mathlib.Core.List.{List, [], _∷_, _++_, map, List·Memᴰ, List·Memᴰ·head, List·Memᴰ·tail, List·Memᴰ·not-nil, List·Memᴰ·cases-cons, List·Memᴰ·append-cases, Memᴰ·append-left, Memᴰ·append-right}
 use mathlib.Core.Logic.{⊎-elim}
 use native.Mathlib.Omega.{arith}
 use lib.ListN.{length, length-append}
@@ -15,10 +15,11 @@ use Rattle.dealing.specs.Deal.{Deal, dealPieces, heldBy, blockOf, cardBlocks, c
 use Rattle.lists.specs.Flat.{flat}
 use Rattle.dealing.specs.Dealt.{Made, blockCount}
 use Rattle.dealing.proofs.MadeLaws.{InRange, made-in-range, card-length}
-use Rattle.lists.proofs.FlatLaws.{flat-append, flat-length}
-use Rattle.demands.specs.Group.{Member, CardsOf, WholeCards, cards, members}
+use Rattle.lists.proofs.FlatLaws.{Long, flat-append, flat-length}
+use Rattle.demands.specs.Group.{Member, CardsOf, PileOf, WholeCards, cards, members}
 use Rattle.demands.proofs.GroupLaws.{in-members, members-in}
-use Rattle.demands.proofs.CardLaws.{cards-long}
+use Rattle.demands.proofs.LaidLaws.{whole-long}
+use Rattle.demands.proofs.CardLaws.{card-long}
 
 -- ---- cards in a row, whatever the blocks of each holder's card are
 module _ (blocksOf : ℕ → List (List ℕ)) where
@@ -50,51 +51,62 @@ module _ (blocksOf : ℕ → List (List ℕ)) where
     all = λ i m b k. row-has hs i (all i m) b k;
   }
 
+  module _ (card : ℕ → List ℕ) (is : (i : ℕ) → card i ≡ flat (blocksOf i)) where
+    row-bytes : (hs : List ℕ) → flat (map card hs) ≡ flat (rowBlocks hs)
+    unfolding flat rowBlocks
+    row-bytes [] = refl
+    row-bytes (h ∷ hs) = ap₂ (λ (x y : List ℕ). x ++ y) (is h) (row-bytes hs) ∙ sym (flat-append (blocksOf h) (rowBlocks hs))
+
+    pub row-pile : ((i : ℕ) → Long 512 (blocksOf i)) → (member : ℕ → Type 0) (hs : List ℕ)
+        → ((i : ℕ) → i ∈ hs → member i) → ((i : ℕ) → member i → i ∈ hs)
+        → length (flat (map card hs)) ≤ 512 * 560 → PileOf blocksOf member (flat (map card hs))
+    row-pile long member hs theirs all few =
+        let bs = rowBlocks hs in
+        let whole = row-whole member hs theirs all in
+        record {
+          blocks = bs;
+          whole = whole;
+          bytes = row-bytes hs;
+          few = omega (arith, ap length (row-bytes hs), flat-length bs (whole-long blocksOf long member bs whole));
+        }
+
+-- cards of at most m blocks each
+pub row-few : (card : ℕ → List ℕ) (m : ℕ) (hs : List ℕ) → ((i : ℕ) → i ∈ hs → length (card i) ≤ 512 * m) → length (flat (map card hs)) ≤ 512 * m * length hs
+unfolding flat
+row-few card m [] t = zero-le
+row-few card m (h ∷ hs) t =
+    omega (
+      arith,
+      length-append (card h) (flat (map card hs)),
+      t h (List·Memᴰ·head refl),
+      row-few card m hs (λ i k. t i (List·Memᴰ·tail k)),
+    )
+
+-- there are at most eight members
+pub few-members : (d : Deal) (g : ℕ) → d .policy .people ≤ 8 → length (members d g) ≤ 8
+unfolding members
+few-members d g few = omega (arith, those-few (λ i. member i g) 1 (d .policy .people))
+
+-- ---- the cards of the first scheme
 module _ (d : Deal) where
-  row-bytes : (hs : List ℕ) → cards d hs ≡ flat (rowBlocks (cardBlocks d) hs)
-  unfolding cards flat rowBlocks card cardBlocks blockOf
-  row-bytes [] = refl
-  row-bytes (h ∷ hs) =
-      ap (λ (l : List ℕ). flat (cardBlocks d h) ++ l) (row-bytes hs) ∙ sym (flat-append (cardBlocks d h) (rowBlocks (cardBlocks d) hs))
+  card-is : (i : ℕ) → card d i ≡ flat (cardBlocks d i)
+  unfolding card cardBlocks blockOf
+  card-is i = refl
 
   pub row : (g : ℕ) (hs : List ℕ) → ((i : ℕ) → i ∈ hs → Member d g i) → ((i : ℕ) → Member d g i → i ∈ hs)
       → length (cards d hs) ≤ 512 * 560 → WholeCards d g (cards d hs)
-  row g hs theirs all few =
-      let bs = rowBlocks (cardBlocks d) hs in
-      let whole = row-whole (cardBlocks d) (Member d g) hs theirs all in
-      record {
-        blocks = bs;
-        whole = whole;
-        bytes = row-bytes hs;
-        few = omega (arith, ap length (row-bytes hs), flat-length bs (cards-long d g bs whole));
-      }
+  unfolding cards
+  row g hs = row-pile (cardBlocks d) (card d) card-is (card-long d) (Member d g) hs
 
-  -- ---- a card has at most k blocks, and k is at most 70
-  module _ (f : InRange d) where
-    card-few : (i : ℕ) → length (card d i) ≤ 512 * 70
-    unfolding blockCount heldBy planning.held dealPieces
-    card-few i =
-        omega (arith, card-length d i, f .ready .most, those-few (holds (d .policy .people) (d .policy .required) i) 1 (dealPieces d))
-
-    cards-few : (g : ℕ) (hs : List ℕ) → ((i : ℕ) → i ∈ hs → Member d g i) → length (cards d hs) ≤ 512 * 70 * length hs
-    unfolding cards flat
-    cards-few g [] t = zero-le
-    cards-few g (h ∷ hs) t =
-        omega (
-          arith,
-          length-append (card d h) (cards d hs),
-          card-few h,
-          cards-few g hs (λ i k. t i (List·Memᴰ·tail k)),
-        )
+  -- a card has at most k blocks, and k is at most 70
+  card-few : InRange d → (i : ℕ) → length (card d i) ≤ 512 * 70
+  unfolding blockCount heldBy planning.held dealPieces
+  card-few f i =
+      omega (arith, card-length d i, f .ready .most, those-few (holds (d .policy .people) (d .policy .required) i) 1 (dealPieces d))
 
 pub once-each : (d : Deal) → Made d → (g : ℕ) → WholeCards d g (cards d (members d g))
-unfolding members
+unfolding cards
 once-each d made g =
     let f = made-in-range d made in
     row d g (members d g) (λ i m. in-members d g i m) (λ i m. members-in d g i m)
-    (omega (
-      arith,
-      cards-few d f g (members d g) (λ i m. in-members d g i m),
-      those-few (λ i. member i g) 1 (d .policy .people),
-      f .ready .few,
-    ))
+    (omega (arith, row-few (card d) 70 (members d g) (λ i m. card-few d f i), few-members d g (f .ready .few)))

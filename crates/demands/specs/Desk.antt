@@ -8,7 +8,7 @@ use Rattle.lists.specs.Flat.{flat}
 use Rattle.answer.specs.Outcome.{done, refused}
 use Rattle.answer.specs.Checks.{Line}
 use Rattle.answer.specs.Lent.{noRoom}
-use Rattle.block.specs.Open.{unread, check, header, tornBlock}
+use Rattle.block.specs.Open.{unread, check, foreign, tornBlock}
 use Rattle.dealing.specs.Deal.{Deal, dealPieces, cardBlocks}
 use Rattle.dealing.specs.Dealt.{Made}
 use Rattle.joining.specs.Joined.{joining, joinedInto}
@@ -48,7 +48,7 @@ DeskOrder = (d : Desk) (c : ℕ)
     ≡ noClient c ∷ busy (wordsOf d c) ∷ badOpening new ∷ noSlots (reserved (wordsOf d (other c))) new ∷ [])
     × ((b : List ℕ) → linesAt d (hands c b)
     ≡ noClient c ∷ notOpen (wordsOf d c)
-    ∷ tornBlock b ∷ unread b 1 ∷ check b 1 ∷ header b 1
+    ∷ tornBlock b ∷ unread b 1 ∷ check b 1 ∷ foreign b 1
     ∷ otherDeal (wordsOf d c) b ∷ otherValues (d .slots) (wordsOf d c) c b
     ∷ [])
     × ((out : List ℕ) → linesAt d (asks c out)

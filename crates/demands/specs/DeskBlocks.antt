@@ -6,7 +6,7 @@ use mathlib.Core.Bool.{Bool, cond, not}
 use mathlib.Core.List.{List, [], _∷_, List·Memᴰ}
 use lib.Dec.{eqb}
 use lib.ListN.{length}
-use Rattle.block.specs.Layout.{pieceOf}
+use Rattle.block.specs.Layout.{pieceNumber}
 use Rattle.block.specs.Open.{byOutcome}
 use Rattle.dealing.specs.Deal.{Deal, dealPieces, cardBlocks}
 use Rattle.desk.specs.declared.Opening.{Opening}
@@ -31,7 +31,7 @@ each d c b bs = b ∷ bs
 
 -- a block that is taken counts if it brings a piece that the client does not keep yet
 abbrev pub brings : Desk → ℕ → List ℕ → Bool
-brings d c b = not (keeps (d .slots) c (wordsOf d c .width) (pieceOf b))
+brings d c b = not (keeps (d .slots) c (wordsOf d c .width) (pieceNumber b))
 
 abbrev pub ifNew : Desk → ℕ → List ℕ → List (List ℕ) → List (List ℕ)
 ifNew d c b bs = cond (brings d c b) (b ∷ bs) bs

@@ -38,12 +38,16 @@ pub record CardsOf (blocksOf : ℕ → List (List ℕ)) (member : ℕ → Type 0
   pub theirs : (b : List ℕ) → List·Memᴰ b blocks → (i : ℕ) × member i × List·Memᴰ b (blocksOf i)
   pub all : (i : ℕ) → member i → (b : List ℕ) → List·Memᴰ b (blocksOf i) → List·Memᴰ b blocks
 
--- The pile is the whole cards of the group's members: such blocks of the deal, one after another, up to 560.
-pub record WholeCards (d : Deal) (g : ℕ) (pile : List ℕ) : Type 0 where
+-- The pile is such blocks, one after another, up to 560.
+pub record PileOf (blocksOf : ℕ → List (List ℕ)) (member : ℕ → Type 0) (pile : List ℕ) : Type 0 where
   pub blocks : List (List ℕ)
-  pub whole : CardsOf (cardBlocks d) (Member d g) blocks
+  pub whole : CardsOf blocksOf member blocks
   pub bytes : pile ≡ flat blocks
   pub few : length blocks ≤ 560
+
+-- It is the whole cards of the group's members.
+abbrev pub WholeCards : Deal → ℕ → List ℕ → Type 0
+WholeCards d g = PileOf (cardBlocks d) (Member d g)
 
 -- the cards of these holders, one after another
 unfoldable pub cards : Deal → List ℕ → List ℕ

@@ -2,6 +2,8 @@ pub mod Group
 pub mod Demand1
 pub mod Demand2
 pub mod Demand3
+pub mod SetDealing
+pub mod BySets
 pub mod Keys
 pub mod Salvage
 pub mod Renewal

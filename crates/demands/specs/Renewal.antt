@@ -14,7 +14,7 @@ use Rattle.answer.specs.Lent.{noRoom}
 use Rattle.field.specs.Added.{added}
 use Rattle.field.specs.Hiding.{Matched, Hidden, Gives}
 use Rattle.block.specs.Deals.{badNumber, badYear}
-use Rattle.block.specs.Open.{unread, check, header, tornBlock}
+use Rattle.block.specs.Open.{unread, check, foreign, tornBlock}
 use Rattle.adding.specs.declared.Pair.{Pair}
 use Rattle.adding.specs.Sum.{pairOf, pairIn, sumOf}
 use Rattle.adding.specs.Adding.{unlike, repeated, addLines, adding, sumInto}
@@ -36,8 +36,8 @@ AddEnds = (one two : List ℕ) (new : Pair) (room : ℕ)
 -- last at the room.
 abbrev pub AddOrder : Type 0
 AddOrder = (one two : List ℕ) (new : Pair) (room : ℕ) → addLines one two new room
-    ≡ tornBlock one ∷ unread one 1 ∷ check one 1 ∷ header one 1
-    ∷ tornBlock two ∷ unread two 2 ∷ check two 2 ∷ header two 2
+    ≡ tornBlock one ∷ unread one 1 ∷ check one 1 ∷ foreign one 1
+    ∷ tornBlock two ∷ unread two 2 ∷ check two 2 ∷ foreign two 2
     ∷ unlike one two
     ∷ badNumber (new .number) ∷ badYear (new .year) ∷ repeated one two new
     ∷ noRoom 512 1 room

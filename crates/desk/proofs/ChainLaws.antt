@@ -21,7 +21,7 @@ use Rattle.answer.proofs.LentLaws.{room-refused, room-given}
 use Rattle.lists.proofs.FirstLaws.{found-some, found-none}
 use Rattle.lists.proofs.ThoseLaws.{those-few, those-all}
 use Rattle.lists.proofs.Truth.{and-both, and-no, and-none}
-use Rattle.block.specs.Layout.{pieceOf}
+use Rattle.block.specs.Layout.{pieceNumber}
 use Rattle.desk.specs.declared.Opening.{Opening}
 use Rattle.desk.specs.Opens.{badWord, isClient, accepted, openingOf, alike}
 use Rattle.desk.specs.Lines.{noClient, busy, badOpening, noSlots, openLines, openSays, otherDeal, otherValues, frontLines, handLines, handSlots, handSays, lacking, askLines, askSays, closeLines, closeSays}
@@ -72,7 +72,7 @@ module _ (o : Opening) (b : List ℕ) where
   not-mixed e = sym (not-given (otherDeal o b) [] (done 0) (ap not e))
 
 -- ---- CONFLICT: the slot of the block's piece begins at `at`
-module _ (slots : List ℕ) (o : Opening) (c : ℕ) (b : List ℕ) (at : ℕ) (is : at ≡ start c (pieceOf b)) where
+module _ (slots : List ℕ) (o : Opening) (c : ℕ) (b : List ℕ) (at : ℕ) (is : at ≡ start c (pieceNumber b)) where
   pub is-conflict : keepsAt slots at (o .width) ≡ true → unlike slots at (o .width) b ≢ 0 → refused 19 1 0 ≡ said (otherValues slots o c b ∷ [])
   is-conflict t n =
       sym (given (otherValues slots o c b) [] (done 0)
@@ -82,14 +82,14 @@ module _ (slots : List ℕ) (o : Opening) (c : ℕ) (b : List ℕ) (at : ℕ) (i
   unfolding firstFail
   not-other e =
       sym (not-given (otherValues slots o c b) [] (done 0)
-      (ap (λ (x : Bool). keeps slots c (o .width) (pieceOf b) && x) (ap (λ (x : ℕ). found (unlike slots x (o .width) b)) (sym is) ∙ found-none e)
-      ∙ and-none (keeps slots c (o .width) (pieceOf b))))
+      (ap (λ (x : Bool). keeps slots c (o .width) (pieceNumber b) && x) (ap (λ (x : ℕ). found (unlike slots x (o .width) b)) (sym is) ∙ found-none e)
+      ∙ and-none (keeps slots c (o .width) (pieceNumber b))))
 
   pub not-kept : keepsAt slots at (o .width) ≡ false → done 0 ≡ said (otherValues slots o c b ∷ [])
   unfolding firstFail
   not-kept e =
       sym (not-given (otherValues slots o c b) [] (done 0)
-      (and-no (keeps slots c (o .width) (pieceOf b)) (found (unlike slots (start c (pieceOf b)) (o .width) b)) (ap (λ (x : ℕ). keepsAt slots x (o .width)) (sym is) ∙ e)))
+      (and-no (keeps slots c (o .width) (pieceNumber b)) (found (unlike slots (start c (pieceNumber b)) (o .width) b)) (ap (λ (x : ℕ). keepsAt slots x (o .width)) (sym is) ∙ e)))
 
 -- ---- what the code knows past a check that gave a result
 pub past-front : (o : Opening) (c : ℕ) (b : List ℕ) {x : Answer} {u : ℕ} → outcome x ≡ said (frontLines o c b) → x ≡ Done u → Front o c b

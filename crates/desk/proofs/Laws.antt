@@ -1,6 +1,7 @@
 -- This room's laws, proved: each by its name in specs/Laws.antt. Assumes nothing.
 use mathlib.Core.Path.{sym, ap, _∙_}
 use mathlib.Core.Bool.{not}
+use Rattle.block.proofs.OpenLaws.{one-true}
 use Rattle.desk.specs.Opens.{openingOf, alike}
 use Rattle.desk.specs.Laws as law
 use Rattle.desk.proofs.WordLaws.{alike-same, alike-deal}
@@ -26,5 +27,6 @@ blind c x xs ys k q u = unseen.blind c k x xs ys q u
 
 pub mixed-alike : law.MixedAlike
 mixed-alike o c b b′ p q =
-    let same = alike-same (openingOf b) o (front-passed o c b p .deal) in
-    ap not (ap (alike (openingOf b′)) (sym same) ∙ alike-deal b′ b)
+    let f = front-passed o c b p in
+    let same = alike-same (openingOf b) o (f .deal) in
+    ap not (ap (alike (openingOf b′)) (sym same) ∙ alike-deal b′ b (one-true b′ 1 q .2) (f .mark))

@@ -13,7 +13,8 @@ use Rattle.lists.specs.Places.{found}
 use Rattle.answer.specs.Laws.{Passed}
 use Rattle.answer.proofs.CheckLaws.{append-lines, done-passed, passed, passed-one, passed-none, passed-append}
 use Rattle.lists.proofs.FirstLaws.{none-found}
-use Rattle.block.specs.Layout.{pieceOf}
+use Rattle.block.specs.Words.{wordAt}
+use Rattle.block.specs.Layout.{pieceNumber}
 use Rattle.block.specs.Open.{oneLines, TrueBlock}
 use Rattle.block.proofs.OpenLaws.{one-true}
 use Rattle.block.proofs.RangeLaws.{true-ranges}
@@ -85,6 +86,7 @@ pub record Front (o : Opening) (c : ℕ) (b : List ℕ) : Type 0 where
   pub opened : accepted o ≡ true
   pub long : length b ≡ 512
   pub block : TrueBlock b
+  pub mark : wordAt b 1 ≡ 1987
   pub deal : alike (openingOf b) o ≡ true
 
 pub front-passed : (o : Opening) (c : ℕ) (b : List ℕ) → Passed (frontLines o c b) → Front o c b
@@ -99,10 +101,11 @@ front-passed o c b p =
       opened = not-false (accepted o) (y .0);
       long = z .0;
       block = z .1;
+      mark = z .2;
       deal = not-false (alike (openingOf b) o) (passed (w .1) .0);
     }
 
-pub front-piece : (o : Opening) (c : ℕ) (b : List ℕ) → Front o c b → (1 ≤ pieceOf b) × (pieceOf b ≤ o .pieces)
+pub front-piece : (o : Opening) (c : ℕ) (b : List ℕ) → Front o c b → (1 ≤ pieceNumber b) × (pieceNumber b ≤ o .pieces)
 front-piece o c b f =
     let e : openingOf b .pieces ≡ o .pieces = ap (λ (x : Opening). x .pieces) (alike-same (openingOf b) o (f .deal)) in
     let r = true-ranges (f .block) .piece in

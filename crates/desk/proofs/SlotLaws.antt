@@ -20,7 +20,7 @@ use Rattle.field.specs.Joined.{joined}
 use Rattle.field.specs.Secret.{column, secretOf}
 use Rattle.lists.proofs.RunLaws.{run-length, run-same}
 use Rattle.block.specs.Words.{wordAt}
-use Rattle.block.specs.Layout.{pieceOf}
+use Rattle.block.specs.Layout.{pieceNumber}
 use Rattle.desk.specs.declared.Opening.{Opening}
 use Rattle.desk.specs.Slots.{start, regionStart, overAt, inSlot, keepsAt, keeps, distinct, unlike, kept, valueIn, secretFor, cleared}
 use Rattle.desk.specs.Lines.{otherValues, frontLines, handLines, handSlots, handSays, askLines, askSays, askInto}
@@ -43,30 +43,30 @@ module _ (slots : List ℕ) (o : Opening) (c : ℕ) (b : List ℕ) (size : lengt
   new-few : length (kept b (o .width)) ≤ 17
   new-few = omega (arith, kept-length b (o .width), ranged o (f .opened) .width .1)
 
-  pub hand-fits : start c (pieceOf b) + length (kept b (o .width)) ≤ length slots
+  pub hand-fits : start c (pieceNumber b) + length (kept b (o .width)) ≤ length slots
   hand-fits =
       let r = front-piece o c b f in
-      omega (arith, slot-fits c (pieceOf b) (f .client) (r .0) (omega (arith, r .1, pieces-few)), new-few, size)
+      omega (arith, slot-fits c (pieceNumber b) (f .client) (r .0) (omega (arith, r .1, pieces-few)), new-few, size)
 
   pub hand-length : length (handSlots slots o c b) ≡ 1190
   unfolding handSlots
-  hand-length = written-length (start c (pieceOf b)) (kept b (o .width)) slots hand-fits ∙ size
+  hand-length = written-length (start c (pieceNumber b)) (kept b (o .width)) slots hand-fits ∙ size
 
   -- the slot of the piece is one of the client's
-  hand-in : (i : ℕ) → start c (pieceOf b) ≤ i → i < start c (pieceOf b) + length (kept b (o .width)) → In c (o .pieces) i
+  hand-in : (i : ℕ) → start c (pieceNumber b) ≤ i → i < start c (pieceNumber b) + length (kept b (o .width)) → In c (o .pieces) i
   hand-in i l h =
       let r = front-piece o c b f in
-      let e : (start c (pieceOf b)) + (i - start c (pieceOf b)) ≡ i = omega arith in
-      rw e at (slot-in c (o .pieces) (pieceOf b) (i - start c (pieceOf b)) (f .client) pieces-few (r .0) (r .1) (omega (arith, new-few)))
+      let e : (start c (pieceNumber b)) + (i - start c (pieceNumber b)) ≡ i = omega arith in
+      rw e at (slot-in c (o .pieces) (pieceNumber b) (i - start c (pieceNumber b)) (f .client) pieces-few (r .0) (r .1) (omega (arith, new-few)))
 
   pub hand-outside : (i : ℕ) → (In c (o .pieces) i → ⊥) → getD (handSlots slots o c b) i 0 ≡ getD slots i 0
   unfolding handSlots
-  hand-outside i n = go (decLt i (start c (pieceOf b))) (decLt i (start c (pieceOf b) + length (kept b (o .width))))
+  hand-outside i n = go (decLt i (start c (pieceNumber b))) (decLt i (start c (pieceNumber b) + length (kept b (o .width))))
     where
-      go : Dec (i < start c (pieceOf b)) → Dec (i < start c (pieceOf b) + length (kept b (o .width))) → getD (overAt (start c (pieceOf b)) (kept b (o .width)) slots) i 0 ≡ getD slots i 0
-      go (yes h) t = written-before (start c (pieceOf b)) (kept b (o .width)) slots hand-fits i h
+      go : Dec (i < start c (pieceNumber b)) → Dec (i < start c (pieceNumber b) + length (kept b (o .width))) → getD (overAt (start c (pieceNumber b)) (kept b (o .width)) slots) i 0 ≡ getD slots i 0
+      go (yes h) t = written-before (start c (pieceNumber b)) (kept b (o .width)) slots hand-fits i h
       go (no h) (yes t) = absurd (n (hand-in i (omega arith) t))
-      go (no h) (no t) = written-after (start c (pieceOf b)) (kept b (o .width)) slots hand-fits i (omega arith)
+      go (no h) (no t) = written-after (start c (pieceNumber b)) (kept b (o .width)) slots hand-fits i (omega arith)
 
 -- two desks' slots, in which client c has the same numbers
 pub record Same (c k : ℕ) (s t : List ℕ) : Type 0 where
@@ -110,19 +110,19 @@ module _ (s t : List ℕ) (o : Opening) (c : ℕ) (who : Client c) (few : o .pie
 -- ---- handing in the same block
 module _ (s t : List ℕ) (o : Opening) (c : ℕ) (b : List ℕ) (size-s : length s ≡ 1190) (size-t : length t ≡ 1190) (agree : Same c (o .pieces) s t) where
   pub hand-slots-same : Front o c b → Same c (o .pieces) (handSlots s o c b) (handSlots t o c b)
-  hand-slots-same f = record { same = λ i m. go i m (decLt i (start c (pieceOf b))) (decLt i (start c (pieceOf b) + length (kept b (o .width)))) }
+  hand-slots-same f = record { same = λ i m. go i m (decLt i (start c (pieceNumber b))) (decLt i (start c (pieceNumber b) + length (kept b (o .width)))) }
     where
-      go : (i : ℕ) → In c (o .pieces) i → Dec (i < start c (pieceOf b)) → Dec (i < start c (pieceOf b) + length (kept b (o .width)))
+      go : (i : ℕ) → In c (o .pieces) i → Dec (i < start c (pieceNumber b)) → Dec (i < start c (pieceNumber b) + length (kept b (o .width)))
           → getD (handSlots s o c b) i 0 ≡ getD (handSlots t o c b) i 0
       go i m (yes h) d = unfold handSlots in
-          written-before (start c (pieceOf b)) (kept b (o .width)) s (hand-fits s o c b size-s f) i h ∙ agree .same i m
-          ∙ sym (written-before (start c (pieceOf b)) (kept b (o .width)) t (hand-fits t o c b size-t f) i h)
+          written-before (start c (pieceNumber b)) (kept b (o .width)) s (hand-fits s o c b size-s f) i h ∙ agree .same i m
+          ∙ sym (written-before (start c (pieceNumber b)) (kept b (o .width)) t (hand-fits t o c b size-t f) i h)
       go i m (no h) (yes d) = unfold handSlots in
-          written-at (start c (pieceOf b)) (kept b (o .width)) s (hand-fits s o c b size-s f) i (omega arith) d
-          ∙ sym (written-at (start c (pieceOf b)) (kept b (o .width)) t (hand-fits t o c b size-t f) i (omega arith) d)
+          written-at (start c (pieceNumber b)) (kept b (o .width)) s (hand-fits s o c b size-s f) i (omega arith) d
+          ∙ sym (written-at (start c (pieceNumber b)) (kept b (o .width)) t (hand-fits t o c b size-t f) i (omega arith) d)
       go i m (no h) (no d) = unfold handSlots in
-          written-after (start c (pieceOf b)) (kept b (o .width)) s (hand-fits s o c b size-s f) i (omega arith) ∙ agree .same i m
-          ∙ sym (written-after (start c (pieceOf b)) (kept b (o .width)) t (hand-fits t o c b size-t f) i (omega arith))
+          written-after (start c (pieceNumber b)) (kept b (o .width)) s (hand-fits s o c b size-s f) i (omega arith) ∙ agree .same i m
+          ∙ sym (written-after (start c (pieceNumber b)) (kept b (o .width)) t (hand-fits t o c b size-t f) i (omega arith))
 
   pub hand-same : handSays s o c b ≡ handSays t o c b
   unfolding handSays handLines firstFail
@@ -133,7 +133,7 @@ module _ (s t : List ℕ) (o : Opening) (c : ℕ) (b : List ℕ) (size-s : lengt
       let r = front-piece o c b f in
       let few = ranged o (f .opened) .pieces .1 in
       let thin = ranged o (f .opened) .width .1 in
-      let j = pieceOf b in
+      let j = pieceNumber b in
       let x : keeps s c (o .width) j ≡ keeps t c (o .width) j = keeps-same s t o c (f .client) few thin agree j (r .0) (r .1) in
       let y : unlike s (start c j) (o .width) b ≡ unlike t (start c j) (o .width) b = unlike-same s t o c (f .client) few thin agree b j (r .0) (r .1) in
       let z : distinct (handSlots s o c b) o c ≡ distinct (handSlots t o c b) o c = distinct-same (handSlots s o c b) (handSlots t o c b) o c (f .client) few thin (hand-slots-same f) in

@@ -7,7 +7,7 @@ use mathlib.Core.List.{List}
 use Prim.Native.Nat.{ℕ, _≤_}
 use native.Mathlib.Omega.{arith}
 use lib.Dec.{eqb}
-use borrow.Author.Tests.{eqb-true, eq-eqb, ltb-false}
+use borrow.Author.Tests.{eqb-true, eq-eqb, ne-eqb, ltb-false}
 use Rattle.lists.specs.Places.{outside}
 use Rattle.lists.proofs.Truth.{both, or-cases}
 use Rattle.lists.proofs.RangeLaws.{in-range}
@@ -125,7 +125,7 @@ alike-same x y e =
       year = eqb-true (x .year) (y .year) (d .1) i;
     }
 
--- the test that joining has for two blocks
+-- the test that joining has for two blocks, of the first scheme both
 bracketed : (a b c d e : Bool) → a && (b && (c && (d && e))) ≡ a && b && c && d && e
 bracketed false b c d e = refl
 bracketed true false c d e = refl
@@ -133,11 +133,16 @@ bracketed true true false d e = refl
 bracketed true true true false e = refl
 bracketed true true true true e = refl
 
-pub alike-deal : (b b′ : List ℕ) → alike (openingOf b) (openingOf b′) ≡ sameDeal (dealWords b) (dealWords b′)
+pub alike-deal : (b b′ : List ℕ) → wordAt b 1 ≡ 1987 → wordAt b′ 1 ≡ 1987 → alike (openingOf b) (openingOf b′) ≡ sameDeal (dealWords b) (dealWords b′)
 unfolding alike sameDeal
-alike-deal b b′ =
-    bracketed (eqb (wordAt b 2) (wordAt b′ 2)) (eqb (wordAt b 4) (wordAt b′ 4)) (eqb (wordAt b 5) (wordAt b′ 5)) (eqb (wordAt b 6) (wordAt b′ 6))
-    (eqb (wordAt b 24) (wordAt b′ 24))
+alike-deal b b′ e f =
+    rw (
+      eq-eqb (wordAt b 1) (wordAt b′ 1) (e ∙ sym f),
+      ne-eqb (wordAt b 1) 1988 (λ (q : wordAt b 1 ≡ 1988). omega arith),
+      ne-eqb (wordAt b′ 1) 1988 (λ (q : wordAt b′ 1 ≡ 1988). omega arith),
+    )
+    (bracketed (eqb (wordAt b 2) (wordAt b′ 2)) (eqb (wordAt b 4) (wordAt b′ 4)) (eqb (wordAt b 5) (wordAt b′ 5)) (eqb (wordAt b 6) (wordAt b′ 6))
+    (eqb (wordAt b 24) (wordAt b′ 24)))
 
 -- all words but the last are the same: the last settles it
 pub alike-year : (x y : Opening) → x .deal ≡ y .deal → x .people ≡ y .people → x .pieces ≡ y .pieces → x .width ≡ y .width

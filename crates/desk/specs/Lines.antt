@@ -10,7 +10,7 @@ use Rattle.answer.specs.declared.Kind.the-variants.{NoClient, Busy, Header, Ful
 use Rattle.answer.specs.Outcome.{Outcome, done}
 use Rattle.answer.specs.Checks.{Line, line, firstFail}
 use Rattle.answer.specs.Lent.{noRoom, left}
-use Rattle.block.specs.Layout.{pieceOf}
+use Rattle.block.specs.Layout.{pieceNumber}
 use Rattle.block.specs.Open.{oneLines, byOutcome}
 use Rattle.desk.specs.declared.Opening.{Opening}
 use Rattle.desk.specs.declared.Desk.{Desk}
@@ -69,7 +69,7 @@ otherDeal o b = line Mixed (not (alike (openingOf b) o)) 1 0
 
 -- 19 CONFLICT, at a desk: the piece is kept, with another value than the block has
 abbrev pub otherValues : List ℕ → Opening → ℕ → List ℕ → Line
-otherValues slots o c b = line Conflict (keeps slots c (o .width) (pieceOf b) && found (unlike slots (start c (pieceOf b)) (o .width) b)) 1 0
+otherValues slots o c b = line Conflict (keeps slots c (o .width) (pieceNumber b) && found (unlike slots (start c (pieceNumber b)) (o .width) b)) 1 0
 
 -- what goes by the client's words alone: 26, 29, what any block that is lent alone is asked, 18
 unfoldable pub frontLines : Opening → ℕ → List ℕ → List Line
@@ -80,7 +80,7 @@ handLines slots o c b = frontLines o c b ++ otherValues slots o c b ∷ []
 
 -- the slots with the block's piece in its place
 unfoldable pub handSlots : List ℕ → Opening → ℕ → List ℕ → List ℕ
-handSlots slots o c b = overAt (start c (pieceOf b)) (kept b (o .width)) slots
+handSlots slots o c b = overAt (start c (pieceNumber b)) (kept b (o .width)) slots
 
 -- a result is the number of pieces that the client then keeps
 unfoldable pub handSays : List ℕ → Opening → ℕ → List ℕ → Outcome ℕ

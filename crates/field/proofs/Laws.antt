@@ -21,6 +21,7 @@ use Rattle.field.proofs.AddedLaws as sums
 use Rattle.field.proofs.SecretLaws as secret
 use Rattle.field.proofs.SumLaws as joint
 use Rattle.field.proofs.Renewing as renewing
+use Rattle.field.proofs.PartLaws as parts
 
 pub values-at : law.ValuesAt
 values-at q ds rs j i l h = values.values-at q ds rs j (i - 1) (omega arith)
@@ -81,6 +82,15 @@ zeros-added = renewing.zeros-added
 pub paired-two-some : law.PairedTwoSome
 paired-two-some k m m′ ds ds′ h l u l′ u′ e b b′ =
     renewing.paired-two k m m′ ds ds′ b b′ (paired-some k m ds ds′ h l u e) (paired-some k m′ ds ds′ h l′ u′ e)
+
+pub part-random : law.PartRandom
+part-random = parts.part-random
+
+pub round-trip-all : law.RoundTripAll
+round-trip-all = parts.round-trip-all
+
+pub paired-all-some : law.PairedAllSome
+paired-all-some = parts.paired-all (λ k m ds ds′ h l u e. paired-some k m ds ds′ h l u e)
 
 pub joined-added : law.JoinedAdded
 joined-added = joint.joined-added

@@ -17,4 +17,5 @@ pub mod AddedLaws
 pub mod SecretLaws
 pub mod SumLaws
 pub mod Renewing
+pub mod PartLaws
 pub mod Laws

@@ -5,6 +5,7 @@ use mathlib.Core.Logic.{_≢_}
 use mathlib.Core.List.{List, [], _∷_}
 use Prim.Native.Nat.{ℕ, _+_, _-_, _*_, _%_, _≤_, _<_}
 use lib.ListN.{length, getD, take, drop, replicate}
+use Rattle.lists.specs.Places.{at}
 use Rattle.lists.specs.Run.{run}
 use Rattle.prime.specs.Prime.{p, Below}
 use Rattle.field.specs.Poly.{value, piece, Through, One}
@@ -16,6 +17,7 @@ use Rattle.field.specs.Lagrange.{Weights, weightsOf}
 use Rattle.field.specs.Added.{added}
 use Rattle.field.specs.Secret.{column, secretOf}
 use Rattle.field.specs.Renewing.{zerosFor, PairedTwo}
+use Rattle.field.specs.Parts.{partOf, partValues, RandomAll, PairedAll}
 
 -- SCOPE 3: coefficients are read off the lent randomness from its front, one word after the other. With q for each, word i has those after
 -- the first (i−1)·q.
@@ -108,6 +110,23 @@ abbrev pub PairedTwoSome : Type 0
 PairedTwoSome = (k m m′ : ℕ) (ds ds′ : List ℕ) → k < p → 1 ≤ m → m ≤ k → 1 ≤ m′ → m′ ≤ k → length ds ≡ length ds′ → Below ds → Below ds′
     → PairedTwo k m m′ ds ds′
 
+-- ---- several deals of one secret (SCOPE 3.2)
+-- Each deal's part is randomness for a deal of its own.
+abbrev pub PartRandom : Type 0
+PartRandom = (w : ℕ) (ks random : List ℕ) → RandomAll w ks random → (s : ℕ) → 1 ≤ s → s ≤ length ks → Random w (at ks s) (partOf w ks random s)
+
+-- Any one of the deals, with all its pieces, gives the secret, word by word.
+abbrev pub RoundTripAll : Type 0
+RoundTripAll = (ks ds random : List ℕ) → Below ds → RandomAll (length ds) ks random → (s : ℕ) → 1 ≤ s → s ≤ length ks → 1 ≤ at ks s
+    → (i : ℕ) → 1 ≤ i → i ≤ length ds → joined (run (λ j. getD (partValues ks ds random s j) (i - 1) 0) 1 (at ks s)) ≡ getD ds (i - 1) 0
+
+-- For demand 3: whichever piece m s is lacking of each deal s, all the randomness of any two secrets of as many words stands in pairs, by a
+-- map and its inverse, so that every other piece of every deal has the same values.
+abbrev pub PairedAllSome : Type 0
+PairedAllSome = (ks : List ℕ) (m : ℕ → ℕ) (ds ds′ : List ℕ) → ((s : ℕ) → 1 ≤ s → s ≤ length ks → (at ks s < p) × (1 ≤ m s) × (m s ≤ at ks s))
+    → length ds ≡ length ds′ → PairedAll ks m ds ds′
+
+-- ---- pieces that are added
 -- Pieces that are added join to the sum mod p of the words.
 abbrev pub JoinedAdded : Type 0
 JoinedAdded = (ys zs : List ℕ) → length ys ≡ length zs → joined (added ys zs) ≡ (joined ys + joined zs) % p

@@ -7,4 +7,5 @@ pub mod Lagrange
 pub mod Added
 pub mod Secret
 pub mod Renewing
+pub mod Parts
 pub mod Laws

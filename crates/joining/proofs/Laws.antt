@@ -1,5 +1,6 @@
 -- This room's laws, proved: each by its name in specs/Laws.antt. Assumes nothing.
 use mathlib.Core.Path.{_≡_, sym, ap, _∙_}
+use mathlib.Core.Bool.{true, false, false≢true}
 use mathlib.Core.List.{_++_}
 use Prim.Native.Nat.{ℕ}
 use native.Mathlib.Omega.{arith}
@@ -17,6 +18,8 @@ use Rattle.joining.specs.Laws as law
 use Rattle.joining.proofs.HeapLaws as heap
 use Rattle.joining.proofs.MixedLaws as mixed
 use Rattle.joining.proofs.ConflictLaws.{by-first, with-first}
+use Rattle.joining.proofs.ChosenLaws as chosen
+use Rattle.joining.proofs.CompleteLaws as complete
 use Rattle.joining.proofs.PlaceLaws as place
 use Rattle.joining.proofs.SoundLaws as sound
 use Rattle.joining.proofs.PolyLaws as poly
@@ -32,6 +35,15 @@ then-joins = sound.then-joins
 
 pub lacks-then : law.LacksThen
 lacks-then = sound.lacks-then
+
+pub no-set-then : law.NoSetThen
+no-set-then = sound.no-set-then
+
+pub complete-means : law.CompleteMeans
+complete-means = complete.complete-means
+
+pub chosen-lowest : law.ChosenLowest
+chosen-lowest = chosen.chosen-lowest
 
 pub no-blocks : law.NoBlocks
 no-blocks = sound.no-blocks
@@ -79,6 +91,10 @@ pub year-tells : law.YearTells
 year-tells pile room a b w h g other e =
     other (ap (λ (d : DealWords). d .year) (sound.then-joins pile room w e .sound .one-deal a b h g))
 
+pub mark-tells : law.MarkTells
+mark-tells pile room a b w h g other e =
+    other (ap (λ (d : DealWords). d .mark) (sound.then-joins pile room w e .sound .one-deal a b h g))
+
 pub joined-secret : law.JoinedSecret
 joined-secret pile room w i e l h =
     let t = sound.then-joins pile room w e in
@@ -88,7 +104,7 @@ pub order-free : law.OrderFree
 order-free pile other room w e whole few true-other g f =
     let t = sound.then-joins pile room w e in
     let u = order.other-joins pile other room w t whole few true-other g f in
-    (sound.joins-then other room w u, order.same-secret pile other room w t u f)
+    (sound.joins-then other room w u, order.same-secret pile other room w t whole few true-other g f)
 
 pub any-order : law.AnyOrder
 any-order pile other room w e whole few g f =
@@ -113,5 +129,8 @@ pub secret-by-differences : law.SecretByDifferences
 secret-by-differences pile i l h =
     secret-at (valueAt pile) (ownPieces pile) (ownWidth pile) i l h ∙ sym (by-differences (column (valueAt pile) (ownPieces pile) i))
 
+pub first-scheme : law.FirstScheme
+first-scheme pile room other = earlier.as-before true pile other (λ e. absurd (false≢true (sym e))) room
+
 pub earlier-join : law.EarlierJoin
-earlier-join pile room none = (earlier.earlier-answer pile none room, earlier.earlier-secret pile none)
+earlier-join pile room other none = earlier.as-before false pile other (λ e. none) room

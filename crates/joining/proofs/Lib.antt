@@ -2,6 +2,8 @@ pub mod HeapLaws
 pub mod PileLaws
 pub mod TableLaws
 pub mod ConflictLaws
+pub mod ChosenLaws
+pub mod CompleteLaws
 pub mod ShortLaws
 pub mod PlaceLaws
 pub mod MixedLaws

@@ -26,6 +26,7 @@ use Rattle.pile.proofs.PileLaws.{rest-long}
 use Rattle.joining.specs.Pile.{ownDeal, ownWidth}
 use Rattle.joining.specs.Checks.{strays, mixedAt, mixed, conflict, short, wholeLines, pileLines}
 use Rattle.joining.specs.Joined.{joinLines, joining}
+use Rattle.joining.proofs.ShortLaws.{short-number}
 use Rattle.joining.specs.Laws.{UnreadPlaces, HeaderPlaces, MixedPlaces, RoomPlaces}
 
 module _ (pile : List ℕ) where
@@ -38,6 +39,15 @@ module _ (pile : List ℕ) where
   join-lines room =
       ap (λ (ls : List Line). tornPile pile ∷ longPile pile ∷ ls)
       (append-assoc (everyBlock pile) (wholeLines pile) (noRoom (ownWidth pile) (ownWidth pile) room ∷ []))
+
+  -- those before that of ROOM have the numbers 18, 19 and 20
+  whole-without : (m : ℕ) → eqb m 18 ≡ false → eqb m 19 ≡ false → eqb m 20 ≡ false → Without m (wholeLines pile)
+  unfolding some
+  whole-without m x y z = rw (short-number pile, x, y, z)
+
+  last-without : (room m : ℕ) → eqb m 18 ≡ false → eqb m 19 ≡ false → eqb m 20 ≡ false → eqb m 12 ≡ false → Without m (last room)
+  unfolding some noRoom
+  last-without room m x y z w = rw (short-number pile, x, y, z, w)
 
   -- ---- the lines of blocks have the numbers 15, 16 and 17
   pub blocks-without : (m n a : ℕ) → eqb m 15 ≡ false → eqb m 16 ≡ false → eqb m 17 ≡ false → Without m (linesFrom pile a n)
@@ -158,26 +168,26 @@ module _ (pile : List ℕ) (o : OneLine) where
 pub unread-places : UnreadPlaces
 unfolding the-unread firstAbove noRoom some
 unread-places pile room a b e =
-    let h = given-at pile the-unread room a b e refl refl in
+    let h = given-at pile the-unread room a b e refl (last-without pile room (number Unread) refl refl refl refl) in
     (h .in-pile, h .trues, first-is (above (restFrom pile a)) 256 (h .given) (h .word))
 
 pub header-places : HeaderPlaces
 unfolding the-header firstWrong noRoom some
 header-places pile room a b e =
-    let h = given-at pile the-header room a b e refl refl in
+    let h = given-at pile the-header room a b e refl (last-without pile room (number Header) refl refl refl refl) in
     (h .in-pile, h .trues, first-is (λ i. not (rightAt (restFrom pile a) i)) 255 (h .given) (h .word))
 
 pub mixed-places : MixedPlaces
 unfolding mixedAt noRoom some
 mixed-places pile room a b e =
     let after = past-blocks pile room (number Mixed) a b e refl refl refl refl refl .1 in
-    let g = only-one (number Mixed) [] (mixed pile) _ (ownWidth pile) a b after refl refl .1 in
+    let g = only-one (number Mixed) [] (mixed pile) _ (ownWidth pile) a b after refl (rw (short-number pile)) .1 in
     (first-is (strays pile (ownDeal pile)) (blocks pile) (g .given) (g .a-is), sym (g .b-is))
 
 pub room-places : RoomPlaces
 unfolding noRoom some
 room-places pile room a b e =
     let after = past-blocks pile room (number Room) a b e refl refl refl refl refl .1 in
-    let before = mixed pile ∷ conflict pile ∷ short pile ∷ [] in
-    let g = only-one (number Room) before (noRoom (ownWidth pile) (ownWidth pile) room) [] (ownWidth pile) a b after refl refl .1 in
+    let none = whole-without pile (number Room) refl refl refl in
+    let g = only-one (number Room) (wholeLines pile) (noRoom (ownWidth pile) (ownWidth pile) room) [] (ownWidth pile) a b after none refl .1 in
     (sym (g .a-is), rw (← g .a-is) (ltb-true _ _ (g .given)), sym (g .b-is))

@@ -14,19 +14,18 @@ use Rattle.joining.specs.Joined.{joining, joinedInto}
 use Rattle.joining.specs.Secret.{secret}
 use Rattle.joining.specs.Inner.{Full}
 use Rattle.joining.specs.Laws as law
-use Rattle.joining.proofs.SoundLaws.{then-joins}
-use Rattle.joining.proofs.PolyLaws as poly
+use Rattle.joining.proofs.SoundLaws.{given-joins}
 
 -- joining gives w
 module _ (pile old : List ℕ) (w : ℕ) (e : joining pile (length old) ≡ done w) where
   pub full : Full pile
-  full = poly.full pile (length old) w (then-joins pile (length old) w e)
+  full = given-joins pile (length old) w e .accepted .full
 
   pub width-is : w ≡ ownWidth pile
-  width-is = sym (then-joins pile (length old) w e .is)
+  width-is = sym (given-joins pile (length old) w e .is)
 
   pub width-fits : w ≤ length old
-  width-fits = let t = then-joins pile (length old) w e in omega (arith, t .is, t .fits)
+  width-fits = let t = given-joins pile (length old) w e in omega (arith, t .is, t .fits)
 
   -- the secret over the front of the output is all there is to write
   pub written : (out : List ℕ) → out ≡ over (secret pile) old → out ≡ joinedInto pile old

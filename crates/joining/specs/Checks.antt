@@ -1,7 +1,7 @@
 -- What the checks of joining say of a pile, whatever it is joined into: a definition for each line, and their order.
 -- Assumes nothing.
 use Prim.Native.Nat.{ℕ}
-use mathlib.Core.Bool.{Bool, not, _&&_, _||_}
+use mathlib.Core.Bool.{Bool, cond, not, _&&_, _||_}
 use mathlib.Core.List.{List, [], _∷_, _++_}
 use lib.ListN.{length}
 use lib.Dec.{eqb, ltb}
@@ -12,7 +12,7 @@ use Rattle.block.specs.declared.deal.DealWords.{DealWords}
 use Rattle.block.specs.Deals.{sameDeal}
 use Rattle.pile.specs.Blocks.{blocks, dealAt, firstBlock}
 use Rattle.pile.specs.Lines.{tornPile, longPile, everyBlock}
-use Rattle.joining.specs.Pile.{ownDeal, ownPieces, pieceAt, differIn, present}
+use Rattle.joining.specs.Pile.{ownDeal, inSets, setAt, piecesAt, pieceAt, chosen, differIn, present}
 
 -- block a is not of the deal d
 abbrev pub strays : List ℕ → DealWords → ℕ → Bool
@@ -29,9 +29,16 @@ mixedAt pile = firstStray pile (ownDeal pile)
 abbrev pub mixed : List ℕ → Line
 mixed pile = line Mixed (found (mixedAt pile)) (mixedAt pile) 0
 
--- 19 CONFLICT: block b has the piece of block a with other values
+-- 19 CONFLICT: block b has the piece of block a with other values,
+unfoldable pub otherValues : List ℕ → ℕ → ℕ → Bool
+otherValues pile a b = eqb (pieceAt pile b) (pieceAt pile a) && found (differIn pile a b)
+
+-- or says of its set that it has another number of pieces
+unfoldable pub otherCount : List ℕ → ℕ → ℕ → Bool
+otherCount pile a b = eqb (setAt pile b) (setAt pile a) && not (eqb (piecesAt pile b) (piecesAt pile a))
+
 unfoldable pub contradicts : List ℕ → ℕ → ℕ → Bool
-contradicts pile a b = eqb (pieceAt pile b) (pieceAt pile a) && found (differIn pile a b)
+contradicts pile a b = otherValues pile a b || otherCount pile a b
 
 -- the first block before block a that contradicts it, or 0
 unfoldable pub contradictedBy : List ℕ → ℕ → ℕ
@@ -44,9 +51,18 @@ conflictAt pile = firstBlock pile (λ a. found (contradictedBy pile a))
 abbrev pub conflict : List ℕ → Line
 conflict pile = line Conflict (found (conflictAt pile)) (conflictAt pile) (contradictedBy pile (conflictAt pile))
 
--- 20 SHORT: no block at all, or fewer pieces than k; how many there are, and k
+-- 20 SHORT, in the first scheme: no block at all, or fewer pieces than k; how many there are, and k
+abbrev pub fewPieces : List ℕ → Line
+fewPieces pile =
+    let k = ownDeal pile .pieces in
+    line Short (eqb (blocks pile) 0 || ltb (length (present pile)) k) (length (present pile)) k
+
+-- by sets: none is complete
+abbrev pub noSet : List ℕ → Line
+noSet pile = line Short (eqb (chosen pile) 0) 0 0
+
 abbrev pub short : List ℕ → Line
-short pile = line Short (eqb (blocks pile) 0 || ltb (length (present pile)) (ownPieces pile)) (length (present pile)) (ownPieces pile)
+short pile = cond (inSets pile) (noSet pile) (fewPieces pile)
 
 -- the lines over the whole pile, after those of its blocks
 abbrev pub wholeLines : List ℕ → List Line

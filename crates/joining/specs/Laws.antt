@@ -2,9 +2,10 @@
 -- Assumes nothing.
 use Prim.Native.Nat.{ℕ, _+_, _-_, _*_, _%_, _≤_, _<_}
 use mathlib.Core.Path.{_≡_}
-use mathlib.Core.Bool.{not}
+use mathlib.Core.Bool.{Bool, true, false, cond, not, _||_}
 use mathlib.Core.Logic.{_≢_, _↔_}
 use mathlib.Core.List.{List, _++_}
+use lib.Dec.{eqb}
 use lib.ListN.{length, getD, drop}
 use Rattle.answer.specs.declared.Kind.the-variants.{Room, Unread, Header, Mixed}
 use Rattle.answer.specs.declared.Answer.{Answer}
@@ -19,25 +20,26 @@ use Rattle.block.specs.declared.deal.DealWords.{DealWords}
 use Rattle.block.specs.Layout.{rightAt}
 use Rattle.block.specs.Open.{above, TrueBlock}
 use Rattle.pile.specs.Blocks.{blocks, restFrom, word, dealAt, firstBlock, TrueBlocks, In}
-use Rattle.joining.specs.Pile.{heapOf, heap, ownBlock, ownDeal, ownPieces, ownWidth, pieceAt, placeOf, valueOf, valueAt, differIn, present}
+use Rattle.joining.specs.Pile.{heapOf, heap, ownBlock, ownDeal, ownWidth, inSets, setAt, piecesAt, numberAt, pieceAt, placeOf, setPlace, complete, chosen, ownPieces, valueOf, valueAt, differIn, present}
 use Rattle.joining.specs.Checks.{strays, contradictedBy, conflictAt}
 use Rattle.joining.specs.Joined.{joining, joinedInto}
 use Rattle.joining.specs.Secret.{secret}
 use Rattle.joining.specs.Earlier.{formerJoining, formerSecret}
 
--- a pile of whole, true blocks, at most 560, that are of one deal and say the same of each piece
+-- a pile of whole, true blocks, at most 560, that are of one deal and say the same of each set and of each piece
 pub record Sound (pile : List ℕ) : Type 0 where
   pub whole : length pile % 512 ≡ 0
   pub few : blocks pile ≤ 560
   pub blocks-true : TrueBlocks pile
   pub one-deal : (a b : ℕ) → In pile a → In pile b → dealAt pile a ≡ dealAt pile b
+  pub one-count : (a b : ℕ) → In pile a → In pile b → setAt pile a ≡ setAt pile b → piecesAt pile a ≡ piecesAt pile b
   pub agree : (a b : ℕ) → In pile a → In pile b → pieceAt pile a ≡ pieceAt pile b → (i : ℕ) → 1 ≤ i → i ≤ ownWidth pile → valueOf pile a i ≡ valueOf pile b i
 
--- what joins: a sound pile with a block for each piece 1 to k, and room for w words
+-- what joins: a sound pile with a block for each piece 1 to k of the chosen set, and room for w words
 pub record Joins (pile : List ℕ) (room w : ℕ) : Type 0 where
   pub sound : Sound pile
   pub some : 1 ≤ blocks pile
-  pub complete : (j : ℕ) → 1 ≤ j → j ≤ ownPieces pile → (a : ℕ) × In pile a × (pieceAt pile a ≡ j)
+  pub complete : (j : ℕ) → 1 ≤ j → j ≤ ownPieces pile → (a : ℕ) × In pile a × (setAt pile a ≡ chosen pile) × (numberAt pile a ≡ j)
   pub fits : ownWidth pile ≤ room
   pub is : ownWidth pile ≡ w
 
@@ -48,21 +50,58 @@ JoinsThen = (pile : List ℕ) (room w : ℕ) → Joins pile room w → joining p
 abbrev pub ThenJoins : Type 0
 ThenJoins = (pile : List ℕ) (room w : ℕ) → joining pile room ≡ done w → Joins pile room w
 
--- SCOPE 6, refusal 20: a sound pile that lacks one of the pieces 1 to k is SHORT, with how many different ones it has, and k.
+-- SCOPE 6, refusal 20: a sound pile of the first scheme that lacks one of the pieces 1 to k is SHORT, with how many different ones it has, and k.
 abbrev pub LacksThen : Type 0
-LacksThen = (pile : List ℕ) (room j : ℕ) → Sound pile → 1 ≤ blocks pile → 1 ≤ j → j ≤ ownPieces pile → placeOf pile j ≡ 0
+LacksThen = (pile : List ℕ) (room j : ℕ) → Sound pile → 1 ≤ blocks pile → inSets pile ≡ false → 1 ≤ j → j ≤ ownPieces pile → placeOf pile j ≡ 0
     → joining pile room ≡ refused 20 (length (present pile)) (ownPieces pile)
+
+-- And one of a deal by sets in which no set of 1 to 70 is complete, with 0 and 0.
+abbrev pub NoSetThen : Type 0
+NoSetThen = (pile : List ℕ) (room : ℕ) → Sound pile → 1 ≤ blocks pile → inSets pile ≡ true
+    → ((s : ℕ) → 1 ≤ s → s ≤ 70 → complete pile s ≡ false) → joining pile room ≡ refused 20 0 0
+
+-- ---- which set is taken
+-- the pile has all pieces of set s: some block is of it, and of whichever block the number of pieces is taken, all of them are there
+pub record HasSet (pile : List ℕ) (s : ℕ) : Type 0 where
+  pub some : (a : ℕ) × In pile a × (setAt pile a ≡ s)
+  pub all : (a : ℕ) → In pile a → setAt pile a ≡ s → (j : ℕ) → 1 ≤ j → j ≤ piecesAt pile a
+      → (b : ℕ) × In pile b × (setAt pile b ≡ s) × (numberAt pile b ≡ j)
+
+-- In a sound pile a set of 1 to 70 is complete exactly where the pile has all its pieces.
+abbrev pub CompleteMeans : Type 0
+CompleteMeans = (pile : List ℕ) (s : ℕ) → Sound pile → 1 ≤ blocks pile → inSets pile ≡ true → 1 ≤ s → s ≤ 70 → (complete pile s ≡ true) ↔ HasSet pile s
+
+-- By sets the chosen set is the lowest one that is complete, and 0 where none is; in the first scheme it is 0.
+abbrev pub ChosenLowest : Type 0
+ChosenLowest = (pile : List ℕ)
+    → (inSets pile ≡ true → 1 ≤ chosen pile → IsFirst (complete pile) 1 71 (chosen pile))
+    × (inSets pile ≡ true → chosen pile ≡ 0 → (s : ℕ) → 1 ≤ s → s ≤ 70 → complete pile s ≡ false)
+    × (inSets pile ≡ false → chosen pile ≡ 0)
 
 -- SCOPE 6.3: a pile without a block gets SHORT with a = 0 and b = 0.
 abbrev pub NoBlocks : Type 0
 NoBlocks = (pile : List ℕ) (room : ℕ) → length pile ≡ 0 → joining pile room ≡ refused 20 0 0
 
--- CONFLICT over all pairs is each block against the first block of its piece.
-abbrev pub ConflictByFirst : Type 0
-ConflictByFirst = (pile : List ℕ) → conflictAt pile ≡ firstBlock pile (λ a. found (differIn pile a (placeOf pile (pieceAt pile a))))
+-- true blocks under one mark
+pub record OneMark (pile : List ℕ) : Type 0 where
+  pub blocks-true : TrueBlocks pile
+  pub mark : (a b : ℕ) → In pile a → In pile b → word pile a 1 ≡ word pile b 1
 
+-- block a says another number of pieces than the first block of its set; has other values than the first block of its piece
+abbrev pub unlikeSet : List ℕ → ℕ → Bool
+unlikeSet pile a = not (eqb (piecesAt pile (setPlace pile (setAt pile a))) (piecesAt pile a))
+
+abbrev pub unlikePiece : List ℕ → ℕ → Bool
+unlikePiece pile a = found (differIn pile a (placeOf pile (pieceAt pile a)))
+
+-- CONFLICT over all pairs is each block against the first block of its set and the first block of its piece,
+abbrev pub ConflictByFirst : Type 0
+ConflictByFirst = (pile : List ℕ) → OneMark pile → conflictAt pile ≡ firstBlock pile (λ a. unlikeSet pile a || unlikePiece pile a)
+
+-- and the block it names is the first of the set where that one is unlike, else the first of the piece.
 abbrev pub ConflictWithFirst : Type 0
-ConflictWithFirst = (pile : List ℕ) → conflictAt pile ≢ 0 → contradictedBy pile (conflictAt pile) ≡ placeOf pile (pieceAt pile (conflictAt pile))
+ConflictWithFirst = (pile : List ℕ) → OneMark pile → conflictAt pile ≢ 0 → let a = conflictAt pile in
+    contradictedBy pile a ≡ cond (unlikeSet pile a) (setPlace pile (setAt pile a)) (placeOf pile (pieceAt pile a))
 
 -- ---- at which places joining refuses
 -- UNREAD: the blocks before block a are true, and b is the first of its 256 words that exceeds 32748.
@@ -130,11 +169,15 @@ OldOnTop = (pile : List ℕ) (room : ℕ) (d : DealWords) → Mixes pile → blo
 abbrev pub YearTells : Type 0
 YearTells = (pile : List ℕ) (room a b w : ℕ) → In pile a → In pile b → word pile a 24 ≢ word pile b 24 → joining pile room ≢ done w
 
--- cs are the coefficients of a polynomial of degree less than k that has value i of piece j at j, for every block of the pile
+-- A pile with blocks of both schemes does not join either.
+abbrev pub MarkTells : Type 0
+MarkTells = (pile : List ℕ) (room a b w : ℕ) → In pile a → In pile b → word pile a 1 ≢ word pile b 1 → joining pile room ≢ done w
+
+-- cs are the coefficients of a polynomial of degree less than k that has value i of piece j at j, for every block of the chosen set
 pub record Fits (pile : List ℕ) (i : ℕ) (cs : List ℕ) : Type 0 where
   pub degree : length cs ≡ ownPieces pile
   pub below : Below cs
-  pub meets : (a : ℕ) → In pile a → valueOf pile a i ≡ value cs (pieceAt pile a) % p
+  pub meets : (a : ℕ) → In pile a → setAt pile a ≡ chosen pile → valueOf pile a i ≡ value cs (numberAt pile a) % p
 
 -- SCOPE 3, joining a word: one polynomial of degree less than k has the pieces as its values at 1 to k; the word is its value at 0.
 abbrev pub JoinedSecret : Type 0
@@ -188,8 +231,17 @@ abbrev pub SecretByDifferences : Type 0
 SecretByDifferences = (pile : List ℕ) (i : ℕ) → 1 ≤ i → i ≤ ownWidth pile
     → getD (secret pile) (i - 1) 0 ≡ byDifferences (column (valueAt pile) (ownPieces pile) i)
 
--- ---- cards made before there was a year
--- Of a pile of blocks that carry 0 in word 24 joining answers what it answered, and gives the secret that it gave.
+-- ---- cards made before there were sets, and before there was a year
+-- joining answers what it answered, and where that is a result, gives the secret that it gave
+abbrev pub JoinsAsBefore : Bool → List ℕ → ℕ → Type 0
+JoinsAsBefore dated pile room =
+    (joining pile room ≡ formerJoining dated pile room) × ((w : ℕ) → joining pile room ≡ done w → secret pile ≡ formerSecret dated pile)
+
+-- So it is for every pile in which no block has the mark of a deal by sets,
+abbrev pub FirstScheme : Type 0
+FirstScheme = (pile : List ℕ) (room : ℕ) → ((a : ℕ) → In pile a → word pile a 1 ≢ 1988) → JoinsAsBefore true pile room
+
+-- and, where these carry 0 in word 24, it is as before there was a year.
 abbrev pub EarlierJoin : Type 0
-EarlierJoin = (pile : List ℕ) (room : ℕ) → ((a : ℕ) → In pile a → word pile a 24 ≡ 0)
-    → (joining pile room ≡ formerJoining pile room) × (secret pile ≡ formerSecret pile)
+EarlierJoin = (pile : List ℕ) (room : ℕ) → ((a : ℕ) → In pile a → word pile a 1 ≢ 1988) → ((a : ℕ) → In pile a → word pile a 24 ≡ 0)
+    → JoinsAsBefore false pile room

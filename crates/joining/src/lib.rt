@@ -1,16 +1,16 @@
 // Joining: a pile of card blocks to its secret, by one of two joiners with the same checks and the same promise. The checks are in checks.rt,
-// the deal that a pile is of in heaps.rt, the secret by weights in secret.rt, by differences in differences.rt; the definitions that the contracts cite are in specs/, under the
-// functions' names.
+// the deal that a pile is of in heaps.rt, where its pieces lie and which are taken in places.rt, the secret by weights in secret.rt, by differences in
+// differences.rt; the definitions that the contracts cite are in specs/, under the functions' names.
 mod checks;
 mod differences;
 mod heaps;
+mod places;
 mod secret;
 
 use answer::Answer;
 use checks::check_join;
-pub use checks::check_pile;
 use differences::write_by_differences;
-use heaps::own_deal;
+use places::taken;
 use secret::write_secret;
 ghost use mathlib.Core.Path.{_≡_};
 ghost use lib.ListN.{length};
@@ -22,12 +22,15 @@ pub fn join(pile: &[u8], out: &mut [u16]) -> Answer
     ensures says { λ r. ⌜ outcome r ≡ joining (now (pile .entry)) (length (now (out .entry))) ⌝ }
     ensures leaves { λ r. ⌜ now (out .exit) ≡ joinedInto (now (pile .entry)) (now (out .entry)) ⌝ }
 {
-    match check_join(pile, out.len()) {
+    let mut table = [0u16; 560];
+    match check_join(pile, out.len(), &mut table) {
         Answer::Done(w) => {
-            let own = own_deal(pile);
-            let k = own.pieces as usize;
-            let weights = field::weights(k);
-            write_secret(pile, k, w, &weights, out);
+            let part = taken(pile, &table);
+            let before = part.before;
+            let pieces = part.pieces;
+            let end = before + pieces;
+            let weights = field::weights(pieces);
+            write_secret(pile, &table[before..end], w, &weights, out);
             Answer::Done(w)
         }
         Answer::Refused(r) => Answer::Refused(r),
@@ -39,11 +42,14 @@ pub fn join_by_differences(pile: &[u8], out: &mut [u16]) -> Answer
     ensures says { λ r. ⌜ outcome r ≡ joining (now (pile .entry)) (length (now (out .entry))) ⌝ }
     ensures leaves { λ r. ⌜ now (out .exit) ≡ joinedInto (now (pile .entry)) (now (out .entry)) ⌝ }
 {
-    match check_join(pile, out.len()) {
+    let mut table = [0u16; 560];
+    match check_join(pile, out.len(), &mut table) {
         Answer::Done(w) => {
-            let own = own_deal(pile);
-            let k = own.pieces as usize;
-            write_by_differences(pile, k, w, out);
+            let part = taken(pile, &table);
+            let before = part.before;
+            let pieces = part.pieces;
+            let end = before + pieces;
+            write_by_differences(pile, &table[before..end], w, out);
             Answer::Done(w)
         }
         Answer::Refused(r) => Answer::Refused(r),

@@ -18,7 +18,7 @@ use Rattle.answer.specs.Checks.{Line, line, pick, firstFail}
 use Rattle.answer.specs.Lent.{noRoom}
 use Rattle.answer.specs.Laws.{Passed}
 use Rattle.answer.proofs.CheckLaws.{not-given, same-after, append-lines, passed-both, passed-done}
-use Rattle.answer.proofs.WhichLaws.{Gives, none-gives, after-others, one-of-two, first-is}
+use Rattle.answer.proofs.WhichLaws.{Without, Gives, none-gives, after-others, one-of-two, first-is}
 use Rattle.packing.specs.Key.{KeyWords, packed, wrongAt, firstWrong, notKey, unpacking}
 use Rattle.packing.proofs.PackLaws.{packed-ten, packed-small}
 use Rattle.packing.proofs.SayLaws.{not-key-means, no-wrong, says-few, says-wrong}
@@ -30,6 +30,7 @@ use Rattle.pile.specs.Blocks.{blocks}
 use Rattle.pile.specs.Lines.{tornPile, longPile, everyBlock}
 use Rattle.joining.specs.Checks.{wholeLines, pileLines}
 use Rattle.joining.specs.Secret.{secret}
+use Rattle.joining.proofs.ShortLaws.{short-number}
 use Rattle.joining.proofs.PlaceLaws.{blocks-without}
 use Rattle.key.specs.Dealt.{keySecret, keyDeal}
 use Rattle.key.specs.Joined.{keyLines, joiningKey}
@@ -77,6 +78,10 @@ record Behind (pile : List ℕ) (room a b : ℕ) : Type 0 where
   passed : Passed (pileLines pile)
   says : unpacking (secret pile) room ≡ refused 23 a b
 
+whole-without : (pile : List ℕ) → Without 23 (wholeLines pile)
+unfolding some
+whole-without pile = rw (short-number pile)
+
 behind : (pile : List ℕ) (room a b : ℕ) → joiningKey pile room ≡ refused 23 a b → Behind pile room a b
 unfolding joiningKey keyLines unpacking pileLines everyBlock some
 behind pile room a b e =
@@ -86,7 +91,7 @@ behind pile room a b e =
     let lines : firstFail (early ++ (wholeLines pile ++ words)) end ≡ refused 23 a b =
     ap (λ (ls : List Line). firstFail ls end) (sym (append-assoc early (wholeLines pile) words)) ∙ e in
     let r = after-others 23 early (wholeLines pile ++ words) end a b lines (blocks-without pile 23 (blocks pile) 1 refl refl refl) in
-    let s = after-others 23 (wholeLines pile) words end a b (r .1) refl in
+    let s = after-others 23 (wholeLines pile) words end a b (r .1) (whole-without pile) in
     record { passed = passed-both early (r .0) (s .0); says = s .1 }
 
 not-words : (words : List ℕ) (room a b : ℕ) → unpacking words room ≡ refused 23 a b → KeyWords words → ⊥

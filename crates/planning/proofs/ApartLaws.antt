@@ -41,7 +41,7 @@ closed n required g h small m u t =
     (more-inside (r .0) g h (r .1) (r .4) (r .3) t)))
 
 -- numbers that rise differ
-rising : (f : ℕ → ℕ) (k i j : ℕ) → ((a b : ℕ) → 1 ≤ a → a < b → b ≤ k → f a < f b) → 1 ≤ i → i ≤ k → 1 ≤ j → j ≤ k → i ≢ j → f i ≢ f j
+pub rising : (f : ℕ → ℕ) (k i j : ℕ) → ((a b : ℕ) → 1 ≤ a → a < b → b ≤ k → f a < f b) → 1 ≤ i → i ≤ k → 1 ≤ j → j ≤ k → i ≢ j → f i ≢ f j
 rising f k i j rise a b c d other same = elim (decLe j i) [
   | yes h ↦ omega (arith, rise j i c (omega arith) b)
   | no h ↦ omega (arith, rise i j a (lt-of-not-le h) d)

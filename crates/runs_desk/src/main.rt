@@ -209,6 +209,18 @@ fn no_blocks(slots: &mut [u16; 1190], both: Clients) {
     hands(b"a value above 32748:", slots, both, 1, &block);
 }
 
+// A true block, but of a deal by sets, and under the check that it had before: the first of its words that a desk does not take is the mark.
+fn set_blocks(slots: &mut [u16; 1190], both: Clients) {
+    let mut block = [0u8; 512];
+    card(7, 0, 1234, 4, &mut block);
+    block[1] = 196;
+    block[49] = 1;
+    hands(b"mark and set changed:", slots, both, 1, &block);
+    block[510] = 47;
+    block[511] = 19;
+    hands(b"of a deal by sets:", slots, both, 1, &block);
+}
+
 // True blocks that are of another deal or year, or that say otherwise than one that was taken.
 fn other_blocks(slots: &mut [u16; 1190], both: Clients) {
     let mut block = [0u8; 512];
@@ -231,6 +243,7 @@ fn blocks() {
     hands(b"before opening:", &mut slots, shut, 1, &block);
     let both = opens(b"client 1 opens:", shut, 1, 7, 3);
     no_blocks(&mut slots, both);
+    set_blocks(&mut slots, both);
     other_blocks(&mut slots, both);
     closes(b"client 1 closes:", &mut slots, both, 1);
 }

@@ -1,7 +1,10 @@
 // What joining answers where the joining program cannot ask: an output with too little room, and piles past 560 blocks; and of piles of several
-// deals; with the lent words afterwards; by the first joiner, and then by differences. It is compared with `stdout`.
+// deals, or of a deal by sets; with the lent words afterwards; by the first joiner, and then by differences. It is compared with `stdout`.
+mod sets;
+
 use answer::Answer;
 use answer::Refusal;
+use sets::by_sets;
 
 fn number(n: usize) {
     io::write_all(1, b" ");
@@ -88,7 +91,7 @@ fn rooms(by_differences: bool) {
 }
 
 // The first n bytes as a pile.
-fn front(by_differences: bool, name: &[u8], b: &[u8], n: usize, out: &mut [u16]) {
+pub fn front(by_differences: bool, name: &[u8], b: &[u8], n: usize, out: &mut [u16]) {
     if n <= b.len() {
         case(by_differences, name, &b[0..n], out);
     }
@@ -165,6 +168,7 @@ fn cases(by_differences: bool) {
     years(by_differences, b"one year:", 2026, 2026);
     years(by_differences, b"two years:", 2026, 2025);
     years(by_differences, b"a card made earlier:", 2026, 0);
+    by_sets(by_differences);
 }
 
 fn main() {

@@ -1,6 +1,7 @@
 // The functions for firmware, exported for C (include/titmeadow.h). Each is a thin function over one proved function.
 mod desks;
 mod judging;
+mod sets;
 
 use adding::Pair;
 use answer::Answer;
@@ -11,6 +12,7 @@ pub use desks::titmeadow_desk_close;
 pub use desks::titmeadow_desk_hand_in;
 pub use desks::titmeadow_desk_open;
 pub use judging::titmeadow_judge;
+pub use sets::titmeadow_deal_by_sets;
 ghost use mathlib.Core.Path.{_≡_};
 ghost use mathlib.Core.Bool.{cond};
 ghost use mathlib.Core.List.{map};

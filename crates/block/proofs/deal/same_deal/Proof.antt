@@ -28,7 +28,7 @@ returns-4 c =
 returns-5 : tie.Need-returns-5
 unfolding sameDeal
 returns-5 c =
-    let four = c .before .before in
+    let four = c .before .before .before in
     let three = four .before .before .before in
     let two = three .before .before .before in
     rw (
@@ -36,7 +36,23 @@ returns-5 c =
       eq-eqb _ _ (two .if2 .left),
       eq-eqb _ _ (three .if3 .left),
       eq-eqb _ _ (four .if4 .left),
+      ne-eqb _ _ (c .if5 .taken),
+    )
+
+returns-6 : tie.Need-returns-6
+unfolding sameDeal
+returns-6 c =
+    let five = c .before .before in
+    let four = five .before .before .before in
+    let three = four .before .before .before in
+    let two = three .before .before .before in
+    rw (
+      eq-eqb _ _ (two .before .before .before .if1 .left),
+      eq-eqb _ _ (two .if2 .left),
+      eq-eqb _ _ (three .if3 .left),
+      eq-eqb _ _ (four .if4 .left),
+      eq-eqb _ _ (five .if5 .left),
     )
 
 pub same-deal-spec : {M : Type 1} → statement M
-same-deal-spec = tie.close (tie.spec returns returns-2 returns-3 returns-4 returns-5)
+same-deal-spec = tie.close (tie.spec returns returns-2 returns-3 returns-4 returns-5 returns-6)

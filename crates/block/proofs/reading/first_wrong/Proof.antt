@@ -1,6 +1,8 @@
 -- `block::reading::first_wrong` meets its contract. The invariant: the first wrong word is still to be found from word i on; past word 7 it is
--- the first word past the values that is not 0, the year left aside. Assumes nothing.
+-- the first word past the values that is not 0, the year left aside, or the set's. Assumes nothing.
 use borrow.Author.Needs.{needs}
+use borrow.Author.Tests.{not-false}
+use Rattle.lists.proofs.Truth.{not-so}
 use denote.Ref.{now}
 use mathlib.Core.Path.{_≡_, refl, sym, ap, _∙_}
 use mathlib.Core.Bool.{not}
@@ -11,7 +13,7 @@ use Rattle.lists.specs.Places.{firstIn}
 use Rattle.lists.proofs.FirstLaws.{first-hit, first-miss}
 use Rattle.block.specs.Layout.{widthOf, rightAt, firstWrong}
 use Rattle.block.specs.Inner.{filled}
-use Rattle.block.proofs.LayoutLaws.{width-few, wrong-before, wrong-behind}
+use Rattle.block.proofs.LayoutLaws.{width-few, wrong-before, wrong-set, wrong-behind}
 use Rattle.block.proofs.reading.first_wrong.Statement.{statement}
 use Rattle.block.proofs.reading.first_wrong.Tie as tie
 
@@ -70,9 +72,19 @@ returns-2 c =
 returns-3 : tie.Need-returns-3 Inv-loop μ-loop
 unfolding block
 returns-3 c =
-    let a = c .before .before in
+    let r = c .before in
+    let a = r .before .before in
     let w = a .before in
-    c .first-filled2 .ensures ∙ sym (from-eight w ∙ wrong-behind (block w) (few w) (sym (before-year a) ∙ c .before .if2 .left))
+    sym (from-eight w ∙ wrong-set (block w) (few w) (sym (before-year a) ∙ r .before .if2 .left) (sym (r .right-set .ensures) ∙ not-so _ (c .if3 .taken)))
+
+returns-4 : tie.Need-returns-4 Inv-loop μ-loop
+unfolding block
+returns-4 c =
+    let r = c .before .before in
+    let a = r .before .before in
+    let w = a .before in
+    c .first-filled2 .ensures
+    ∙ sym (from-eight w ∙ wrong-behind (block w) (few w) (sym (before-year a) ∙ r .before .if2 .left) (sym (r .right-set .ensures) ∙ not-false _ (c .before .if3 .left)))
 
 pub first-wrong-spec : {M : Type 1} → statement M
 first-wrong-spec =
@@ -92,4 +104,6 @@ first-wrong-spec =
     (λ c κs. search needs)
     returns-2
     (λ c κs. search needs)
-    returns-3)
+    returns-3
+    (λ c κs. search needs)
+    returns-4)

@@ -10,20 +10,20 @@ use borrow.Author.Needs.{needs}
 use Rattle.block.proofs.writing.body_word.Statement.{statement}
 use Rattle.block.proofs.writing.body_word.Tie as tie
 
-eight : (c : tie.At-match-rest) → 8 ≤ c .before .before .args .i
+eight : (c : tie.At-match-rest) → 8 ≤ c .before .args .i
 eight c =
-    let a = c .before .before .args in
+    let a = c .before .args in
     let r = c .match .rest in
     past-seven
     (a .i)
-    (c .before .before .pre .0)
+    (c .before .pre .0)
+    (r .0 .0 .0 .0 .0 .0 .0 .0 .1)
     (r .0 .0 .0 .0 .0 .0 .0 .1)
     (r .0 .0 .0 .0 .0 .0 .1)
     (r .0 .0 .0 .0 .0 .1)
     (r .0 .0 .0 .0 .1)
     (r .0 .0 .0 .1)
     (r .0 .0 .1)
-    (r .0 .1)
 
 sub-at : tie.Need-sub-at
 sub-at c = eight c
@@ -61,15 +61,20 @@ unfolding heldAt
 returns-8 c = rw (c .match .keys8)
 
 returns-9 : tie.Need-returns-9
-returns-9 c =
-    let c0 = c .before .before in
-    let a = c0 .before .before .args in
-    sym (held-rest (a .l) (now (a .values)) (a .i) (eight c0) (c0 .match .rest .1))
+unfolding heldAt
+returns-9 c = rw (c .match .keys9)
 
 returns-10 : tie.Need-returns-10
 returns-10 c =
-    let a = c .before .before .before .args in
-    sym (held-rest (a .l) (now (a .values)) (a .i) (eight (c .before)) (c .before .match .rest .1) ∙ List·getD-eq-default (now (a .values)) 0 (c .if1 .left))
+    let c0 = c .before .before in
+    let a = c0 .before .args in
+    sym (held-rest (a .l) (now (a .values)) (a .i) (eight c0) (c0 .match .rest .0 .1) (c0 .match .rest .1))
+
+returns-11 : tie.Need-returns-11
+returns-11 c =
+    let c0 = c .before in
+    let a = c0 .before .args in
+    sym (held-rest (a .l) (now (a .values)) (a .i) (eight c0) (c0 .match .rest .0 .1) (c0 .match .rest .1) ∙ List·getD-eq-default (now (a .values)) 0 (c .if1 .left))
 
 pub body-word-spec : {M : Type 1} → statement M
 body-word-spec =
@@ -87,4 +92,5 @@ body-word-spec =
     returns-7
     returns-8
     returns-9
-    returns-10)
+    returns-10
+    returns-11)

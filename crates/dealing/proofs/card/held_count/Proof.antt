@@ -6,7 +6,7 @@ use mathlib.Core.Logic.{⊎-elim}
 use native.Mathlib.Omega.{arith}
 use lib.ListN.{length}
 use Rattle.dealing.specs.Inner.{heldIn}
-use Rattle.dealing.proofs.CardLaws.{held-start, held-skip, held-take}
+use Rattle.dealing.proofs.CardLaws.{next-piece, held-start, held-skip, held-take}
 use Rattle.dealing.proofs.card.held_count.Statement.{statement}
 use Rattle.dealing.proofs.card.held_count.Tie as tie
 
@@ -23,8 +23,8 @@ loop-again : tie.Need-loop-again Inv-loop μ-loop
 loop-again c =
     let l = c .before .before .before .loop in
     let a = c .before .before .before .before .args in
-    ⊎-elim (λ w. (omega arith, omega (arith, w .1), w .1 ∙ held-take (a .rows .now) (a .holder) (l .i) (l .count) (w .0 .taken) (l .inv .2)))
-    (λ w. (omega arith, omega (arith, w .1), w .1 ∙ held-skip (a .rows .now) (a .holder) (l .i) (l .count) (w .0 .left) (l .inv .2))) (c .if1 .came)
+    ⊎-elim (λ w. (omega arith, omega (arith, w .1), w .1 ∙ held-take (a .rows .now) (a .holder) (l .i) (l .count) (next-piece (a .rows .now) (a .holder) (l .i) (w .0 .taken)) (l .inv .2)))
+    (λ w. (omega arith, omega (arith, w .1), w .1 ∙ held-skip (a .rows .now) (a .holder) (l .i) (l .count) (next-piece (a .rows .now) (a .holder) (l .i) (w .0 .left)) (l .inv .2))) (c .if1 .came)
 
 returns : tie.Need-returns Inv-loop μ-loop
 returns c =

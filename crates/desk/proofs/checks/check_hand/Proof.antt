@@ -8,7 +8,7 @@ use Rattle.answer.proofs.SaysLaws.{said}
 use native.Mathlib.Nat.{le-of-eq}
 use Rattle.answer.specs.Outcome.{done}
 use Rattle.answer.proofs.CheckLaws.{stops, goes-on}
-use Rattle.block.specs.Layout.{pieceOf}
+use Rattle.block.specs.Layout.{pieceNumber}
 use Rattle.desk.specs.Slots.{start}
 use Rattle.desk.specs.Lines.{otherValues, frontLines, handLines}
 use Rattle.desk.proofs.WordLaws.{ranged}
@@ -34,7 +34,7 @@ past c =
     goes-on (frontLines (g .o) (g .client) (g .block .now)) (k .check-front .ensures) (otherValues (g .slots .now) (g .o) (g .client) (g .block .now) ∷ []) (done 0) (c .enum-told .given .1)
 
 -- where the slot of the block's piece begins
-at-is : (c : tie.After-start) → c .start .result ≡ start (c .before .before .before .before .before .before .args .client) (pieceOf (c .before .before .before .before .before .before .args .block .now))
+at-is : (c : tie.After-start) → c .start .result ≡ start (c .before .before .before .before .before .before .args .client) (pieceNumber (c .before .before .before .before .before .before .args .block .now))
 at-is c = c .start .ensures .0 ∙ ap (start (c .before .before .before .before .before .before .args .client)) (c .before .word .ensures)
 
 returns : tie.Need-returns

@@ -6,7 +6,7 @@ use native.Mathlib.Omega.{arith}
 use borrow.Author.Needs.{needs}
 use borrow.Author.Tests.{lt-ltb, le-ltb}
 use Rattle.answer.specs.Outcome.{outcome, done}
-use Rattle.answer.proofs.CheckLaws.{done-passed}
+use Rattle.answer.proofs.CheckLaws.{never-both, done-passed}
 use Rattle.answer.proofs.SaysLaws.{said, Says, whole, passes, speaks, part-speaks, part-passes}
 use Rattle.lists.proofs.FirstLaws.{found-some, found-none}
 use Rattle.pile.specs.Blocks.{blocks}
@@ -37,32 +37,37 @@ left3 c =
 
 returns : tie.Need-returns
 unfolding pileLines
-returns c = c .refuse .ensures ∙ speaks (whole _) (found-some (c .before .if1 .taken))
+returns c = (c .refuse .ensures ∙ speaks (whole _) (found-some (c .before .if1 .taken)), λ w q. never-both (sym q ∙ c .refuse .ensures))
 
 returns-2 : tie.Need-returns-2
 unfolding blocks
-returns-2 c = c .refuse2 .ensures ∙ speaks (left1 (c .before .before)) (lt-ltb 560 _ (c .before .if2 .taken))
+returns-2 c = (
+  c .refuse2 .ensures ∙ speaks (left1 (c .before .before)) (lt-ltb 560 _ (c .before .if2 .taken)),
+  λ w q. never-both (sym q ∙ c .refuse2 .ensures),
+)
 
 returns-3 : tie.Need-returns-3
 returns-3 c =
     let f = c .before .before .before in
-    part-speaks (everyBlock (f .before .before .before .before .args .pile .now)) _ (left2 (f .before)) (f .check-blocks .ensures) (c .before .r .given .1)
+    let p = f .before .before .before .before .args .pile .now in
+    (part-speaks (everyBlock p) _ (left2 (f .before)) (f .check-blocks .ensures) (c .before .r .given .1), λ w q. never-both (sym q))
 
 returns-4 : tie.Need-returns-4
 returns-4 c =
     let s = c .before .before .before .before .before .before .before .before in
-    c .refuse3 .ensures ∙ sym (none-short (s .args .pile .now) (done 0) (c .before .if3 .taken))
+    (c .refuse3 .ensures ∙ sym (none-short (s .args .pile .now) (done 0) (c .before .if3 .taken)), λ w q. never-both (sym q ∙ c .refuse3 .ensures))
 
 check-whole-requires : tie.Need-check-whole-requires
 unfolding blocks
 check-whole-requires c κs =
-    let t = c .before in
+    let t = c .before .before in
     let f = t .before .before in
-    let p = f .before .before .before .before .args .pile .now in
-    (omega arith, blocks-true p (done-passed (everyBlock p) (done 0) _ (sym (f .check-blocks .ensures) ∙ ap outcome (t .enum-told .given .1)) .0))
+    let d = f .before .before .before .before in
+    let p = d .args .pile .now in
+    ((omega arith, omega (arith, f .before .if2 .left)), (blocks-true p (done-passed (everyBlock p) (done 0) _ (sym (f .check-blocks .ensures) ∙ ap outcome (t .enum-told .given .1)) .0), d .pre))
 
 returns-5 : tie.Need-returns-5
-returns-5 c = c .check-whole .ensures ∙ sym (left3 (c .before .before) .says)
+returns-5 c = (c .check-whole .ensures .0 ∙ sym (left3 (c .before .before .before) .says), c .check-whole .ensures .1)
 
 pub check-pile-spec : {M : Type 1} → statement M
 check-pile-spec =

@@ -1,20 +1,16 @@
 -- `joining::checks::check_whole` meets its contract: at each return the lines before have passed.
 -- Assumes nothing.
-use mathlib.Core.Path.{_≡_, sym, ap, ap₂, _∙_}
+use mathlib.Core.Path.{sym, ap, _∙_}
 use mathlib.Core.List.{[], _∷_}
-use Prim.Native.Nat.{_≤_}
-use native.Mathlib.Omega.{arith}
-use lib.ListN.{length}
 use borrow.Author.Needs.{needs}
 use Rattle.answer.specs.Outcome.{refused}
-use Rattle.answer.proofs.SaysLaws.{said, Says, whole, passes, speaks, silent, part-speaks, part-passes}
+use Rattle.answer.proofs.CheckLaws.{never-both}
+use Rattle.answer.proofs.SaysLaws.{said, Says, whole, passes, speaks, part-speaks, part-passes}
 use Rattle.lists.proofs.FirstLaws.{found-some, found-none}
 use Rattle.block.specs.declared.deal.DealWords.{DealWords}
-use Rattle.joining.specs.Pile.{ownPieces, present}
 use Rattle.joining.specs.Checks.{conflict, short, wholeLines}
 use Rattle.joining.specs.Inner.{Unmixed}
-use Rattle.joining.proofs.PileLaws.{unmixed, pieces-in}
-use Rattle.joining.proofs.ShortLaws.{present-is, short-given, short-passes}
+use Rattle.joining.proofs.PileLaws.{unmixed}
 use Rattle.joining.proofs.checks.check_whole.Statement.{statement}
 use Rattle.joining.proofs.checks.check_whole.Tie as tie
 
@@ -22,77 +18,65 @@ use Rattle.joining.proofs.checks.check_whole.Tie as tie
 past-mixed : (c : tie.Else1) → Unmixed (c .before .before .before .args .pile .now)
 past-mixed c =
     let s = c .before .before .before in
-    unmixed (s .args .pile .now) (s .pre .0) (s .pre .1) (sym (c .before .mixed-at .ensures) ∙ c .if1 .left)
+    unmixed (s .args .pile .now) (s .pre .0 .0) (s .pre .1 .0) (sym (c .before .mixed-at .ensures) ∙ c .if1 .left)
 
 left1 : (c : tie.Else1)
-    → Says (said (wholeLines (c .before .before .before .args .pile .now)))
-    (conflict (c .before .before .before .args .pile .now) ∷ short (c .before .before .before .args .pile .now) ∷ [])
+    → let p = c .before .before .before .args .pile .now in
+    Says (said (wholeLines p)) (conflict p ∷ short p ∷ [])
 left1 c = passes (whole _) (found-none (sym (c .before .mixed-at .ensures) ∙ c .if1 .left))
 
+-- past CONFLICT
 left2 : (c : tie.After-enum-told)
-    → Says (said (wholeLines (c .before .before .before .before .before .before .before .before .before .before .args .pile .now)))
-    (short (c .before .before .before .before .before .before .before .before .before .before .args .pile .now) ∷ [])
+    → let p = c .before .before .before .before .before .before .before .before .before .before .before .args .pile .now in
+    Says (said (wholeLines p)) (short p ∷ [])
 left2 c =
     let f = c .before .before in
-    let e = f .before .before .before .before .before in
+    let e = f .before .before .before .before .before .before in
     part-passes (conflict (e .before .before .before .args .pile .now) ∷ []) _ (left1 e) (f .check-conflict .ensures) (c .enum-told .given .1)
 
 returns : tie.Need-returns
 returns c =
     let t = c .before in
-    let e = t .before .mixed-at .ensures in
-    c .refuse .ensures ∙ ap (λ a. refused 18 a 0) e ∙ speaks (whole _) (found-some (λ z. t .if1 .taken (e ∙ z)))
+    let e = t .before .mixed-at .ensures in (
+      c .refuse .ensures ∙ ap (λ a. refused 18 a 0) e ∙ speaks (whole _) (found-some (λ z. t .if1 .taken (e ∙ z))),
+      λ w q. never-both (sym q ∙ c .refuse .ensures),
+    )
 
 own-deal-requires : tie.Need-own-deal-requires
 own-deal-requires c κs = past-mixed c
 
-places-requires : tie.Need-places-requires
-places-requires c κs = past-mixed (c .before)
+fill-places-requires : tie.Need-fill-places-requires
+fill-places-requires c κs =
+    let e = c .before .before in
+    let s = e .before .before .before in
+    (past-mixed e, (s .pre .0 .1, s .pre .1 .1))
 
 check-conflict-requires : tie.Need-check-conflict-requires
 check-conflict-requires c κs =
-    let p = c .before .before in
-    let o = p .before in
-    (past-mixed (o .before), (ap (λ (d : DealWords). d .width) (o .own-deal .ensures), p .places .ensures))
+    let f = c .before .before in
+    let o = f .before .before in
+    let s = o .before .before .before .before in
+    (past-mixed (o .before), (s .pre .0 .1, (ap (λ (d : DealWords). d .width) (o .own-deal .ensures), f .fill-places .ensures)))
 
 returns-2 : tie.Need-returns-2
 returns-2 c =
     let f = c .before .before .before in
-    let e = f .before .before .before .before .before in
-    part-speaks (conflict (e .before .before .before .args .pile .now) ∷ []) _ (left1 e) (f .check-conflict .ensures) (c .before .r .given .1)
+    let e = f .before .before .before .before .before .before in (
+      part-speaks (conflict (e .before .before .before .args .pile .now) ∷ []) _ (left1 e) (f .check-conflict .ensures) (c .before .r .given .1),
+      λ w q. never-both (sym q),
+    )
 
--- k, and the pieces present
-k-is : (c : tie.After-enum-told)
-    → (c .before .before .before .before .before .before .own-deal .result .pieces ≡ ownPieces (c .before .before .before .before .before .before .before .before .before .before .args .pile .now))
-    × (c .before .before .before .before .before .before .own-deal .result .pieces ≤ 70)
-k-is c =
-    let o = c .before .before .before .before .before .before in
-    let k = ap (λ (d : DealWords). d .pieces) (o .own-deal .ensures) in
-    (k, omega (arith, k, pieces-in (past-mixed (o .before)) .1))
-
-count-present-requires : tie.Need-count-present-requires
-count-present-requires c κs = k-is (c .before .before) .1
-
-here-is : (c : tie.After-count-present)
-    → c .count-present .result ≡ length (present (c .before .before .before .before .before .before .before .before .before .before .before .before .before .args .pile .now))
-here-is c =
-    let t = c .before .before .before in
-    let p = t .before .before .before .before .before in
-    c .count-present .ensures ∙ ap length (present-is _ _ _ (k-is t .0) (k-is t .1) (p .places .ensures))
+check-short-requires : tie.Need-check-short-requires
+check-short-requires c κs =
+    let f = c .before .before .before .before .before .before in
+    let o = f .before .before in
+    (past-mixed (o .before), (o .own-deal .ensures, f .fill-places .ensures))
 
 returns-3 : tie.Need-returns-3
 returns-3 c =
-    let i = c .before in
-    let t = i .before .before .before .before in
-    let e = here-is (i .before) in
-    let k = k-is t .0 in
-    c .refuse2 .ensures ∙ ap₂ (refused 20) e k ∙ speaks (left2 t) (short-given _ (rw (e, k) at (i .if2 .taken)))
-
-returns-4 : tie.Need-returns-4
-returns-4 c =
-    let t = c .before .before .before .before in
-    let s = t .before .before .before .before .before .before .before .before .before .before in
-    silent (passes (left2 t) (short-passes _ (s .pre .0) (rw (here-is (c .before), k-is t .0) at (c .if2 .left))))
+    let t = c .before .before in
+    let f = t .before .before .before .before .before in
+    (c .check-short .ensures ∙ sym (left2 t .says), λ w q. f .fill-places .ensures)
 
 pub check-whole-spec : {M : Type 1} → statement M
 check-whole-spec =
@@ -102,14 +86,11 @@ check-whole-spec =
     (λ c κs. search needs)
     returns
     own-deal-requires
-    places-requires
+    fill-places-requires
     (λ c. search needs)
     check-conflict-requires
     (λ c. search needs)
     returns-2
     (λ c. search needs)
-    (λ c. search needs)
-    count-present-requires
-    (λ c κs. search needs)
-    returns-3
-    returns-4)
+    check-short-requires
+    returns-3)

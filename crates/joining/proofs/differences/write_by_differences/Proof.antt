@@ -2,28 +2,24 @@
 -- Assumes nothing.
 use native.Mathlib.Omega.{arith}
 use borrow.Author.Needs.{needs}
-use mathlib.Core.Path.{_≡_, refl, ap₂, _∙_}
+use mathlib.Core.Path.{_≡_, refl, ap, _∙_}
 use Prim.Native.Nat.{ℕ, _-_, _≤_}
 use lib.ListN.{length, length-set}
 use Rattle.lists.specs.Run.{run}
 use Rattle.lists.specs.Over.{over}
 use Rattle.field.specs.Joined.{joined}
 use Rattle.field.specs.Secret.{column, secretOf}
-use Rattle.joining.specs.Pile.{valueAt}
-use Rattle.joining.proofs.PileLaws.{pieces-in}
+use Rattle.joining.specs.Pile.{ownPieces, valueAt}
 use Rattle.lists.proofs.OverLaws.{over-on}
 use Rattle.joining.proofs.differences.write_by_differences.Statement.{statement}
 use Rattle.joining.proofs.differences.write_by_differences.Tie as tie
 
 abbrev Inv-loop : tie.InvT-loop
-Inv-loop pile k w out₀ table values₀ i₀ out values i =
-    (i ≤ w) × (length out ≡ length out₀) × (length values ≡ 70) × (out ≡ over (secretOf (valueAt pile) k i) out₀)
+Inv-loop pile places w out₀ values₀ i₀ out values i =
+    (i ≤ w) × (length out ≡ length out₀) × (length values ≡ 70) × (out ≡ over (secretOf (valueAt pile) (ownPieces pile) i) out₀)
 
 abbrev μ-loop : tie.MeasureT-loop
-μ-loop pile k w out₀ table values₀ i₀ out values i = w - i
-
-places-requires : tie.Need-places-requires Inv-loop μ-loop
-places-requires c κs = c .before .before .pre .0 .unmixed
+μ-loop pile places w out₀ values₀ i₀ out values i = w - i
 
 loop-holds : tie.Need-loop-holds Inv-loop μ-loop
 unfolding secretOf run over
@@ -31,28 +27,27 @@ loop-holds c = (omega arith, refl, refl, refl)
 
 word-by-differences-requires : tie.Need-word-by-differences-requires Inv-loop μ-loop
 word-by-differences-requires c κs =
-    let l = c .before .before .before in
-    let t = l .before in
-    let d = t .before .before .before in
-    let h = d .pre .1 .0 in
-    (d .pre .0, (t .places .ensures, (h .0, ((omega arith, omega (arith, h .1)), omega (arith, l .loop .inv .2, h .0, pieces-in (d .pre .0 .unmixed) .1)))))
+    let l = c .before .before in
+    let d = l .before .before .before .before in
+    (d .pre .0, (d .pre .1 .0, ((omega arith, omega (arith, d .pre .1 .1 .0)), omega (arith, l .loop .inv .2, d .pre .0 .pieces-in .1))))
 
 slice-write-out : tie.Need-slice-write-out Inv-loop μ-loop
 slice-write-out c =
-    let d = c .before .before .before .before .before .before .before .before .before in
-    omega (arith, d .pre .1 .1)
+    let d = c .before .before .before .before .before .before .before .before in
+    omega (arith, d .pre .1 .1 .1)
 
 loop-again : tie.Need-loop-again Inv-loop μ-loop
 unfolding secretOf
 loop-again c =
-    let l = c .before .before .before .before .before in
+    let l = c .before .before .before .before in
     let d = l .before .before .before .before in
+    let p = d .args .pile .now in
     let v = l .loop .inv in
     let s = c .before .word-by-differences in (
       omega arith,
       length-set (l .loop .out) (l .loop .i) (s .result) ∙ v .1,
       omega arith,
-      over-on (λ m. joined (column (valueAt (d .args .pile .now)) (d .args .k) m)) (d .args .out .now) (l .loop .out) (l .loop .i) (s .result) (omega (arith, d .pre .1 .1)) (s .ensures .0) (v .3),
+      over-on (λ m. joined (column (valueAt p) (ownPieces p) m)) (d .args .out .now) (l .loop .out) (l .loop .i) (s .result) (omega (arith, d .pre .1 .1 .1)) (s .ensures .0) (v .3),
     )
 
 same-length : tie.Need-same-length Inv-loop μ-loop
@@ -62,9 +57,9 @@ returns : tie.Need-returns Inv-loop μ-loop
 returns c =
     let l = c .before in
     let d = l .before .before .before .before in
-    let h = d .pre .1 .0 in
+    let p = d .args .pile .now in
     let all : l .loop .i ≡ d .args .w = omega arith in
-    l .loop .inv .3 ∙ ap₂ (λ (k n : ℕ). over (secretOf (valueAt (d .args .pile .now)) k n) (d .args .out .now)) (h .0) (all ∙ h .1)
+    l .loop .inv .3 ∙ ap (λ (n : ℕ). over (secretOf (valueAt p) (ownPieces p) n) (d .args .out .now)) (all ∙ d .pre .1 .1 .0)
 
 pub write-by-differences-spec : {M : Type 1} → statement M
 write-by-differences-spec =
@@ -72,7 +67,6 @@ write-by-differences-spec =
     (tie.spec
     Inv-loop
     μ-loop
-    places-requires
     loop-holds
     (λ c. omega arith)
     (λ c. search needs)

@@ -1,0 +1,4 @@
+pub mod Cards
+pub mod Dealt
+pub mod Inner
+pub mod Laws
