@@ -82,6 +82,8 @@ static titmeadow_answer answer(uint64_t call, const uint64_t *n, const struct li
                                       l[3].size / 2, out.at, out.size);
     case 20:
         return titmeadow_judge(n[0], l[0].at, l[0].size / 2, l[1].at, l[1].size / 2, n[1], n[2], n[3], l[2].at, l[2].size);
+    case 21:
+        return titmeadow_join_by_weights(l[0].at, l[0].size, out.at, out.size / 2);
     }
     return answer_desk(call, n, l, out);
 }

@@ -140,9 +140,13 @@ titmeadow_answer titmeadow_deal_by_sets(size_t people, const uint16_t *required,
 titmeadow_answer titmeadow_join(const uint8_t *pile, size_t length, uint16_t *secret, size_t room);
 
 /* The same by differences alone, for a unit without room for the modular inverse: on every pile and every secret lent, the answer and the
- * words are those of titmeadow_join. Linked with --gc-sections, a program that calls this joiner and not the other has nothing of the
+ * words are those of titmeadow_join. Linked with --gc-sections, a program that calls this joiner and no other has nothing of the
  * inverse and of the weights. */
 titmeadow_answer titmeadow_join_by_differences(const uint8_t *pile, size_t length, uint16_t *secret, size_t room);
+
+/* The same by weights that are ready made, some 5,000 bytes of constants: answer and words are those of the other two. A program that calls this
+ * joiner alone has nothing of the inverse. */
+titmeadow_answer titmeadow_join_by_weights(const uint8_t *pile, size_t length, uint16_t *secret, size_t room);
 
 /* Opening the first block of a pile: the result is 7, and its words 1 to 7 are written to the seven places of head. The year is none of them:
  * it is bytes 47 and 48 of the block, counted from 1 (TITMEADOW_YEAR_WORD); and so is the place of a set: bytes 49 and 50 (TITMEADOW_SET_WORD).

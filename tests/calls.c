@@ -19,6 +19,7 @@ static const struct {
     [DEAL_BY_SETS] = {"titmeadow_deal_by_sets", {1, 2, 3, 4, 5, 6, 8, 9, 10, 11, 12, 22, 25}},
     [JOIN] = {"titmeadow_join", {12, 13, 14, 15, 16, 17, 18, 19, 20}},
     [JOIN_BY_DIFFERENCES] = {"titmeadow_join_by_differences", {12, 13, 14, 15, 16, 17, 18, 19, 20}},
+    [JOIN_BY_WEIGHTS] = {"titmeadow_join_by_weights", {12, 13, 14, 15, 16, 17, 18, 19, 20}},
     [OPEN] = {"titmeadow_open", {13, 15, 16, 17}},
     [SALVAGE] = {"titmeadow_salvage", {12, 13, 14}},
     [PACK] = {"titmeadow_pack", {10}},
@@ -31,6 +32,8 @@ static const struct {
     [DESK_ASK] = {"titmeadow_desk_ask", {12, 20, 26, 29}},
     [DESK_CLOSE] = {"titmeadow_desk_close", {26, 29}},
 };
+const struct joiner joiners[JOINERS] = {
+    {JOIN, titmeadow_join}, {JOIN_BY_DIFFERENCES, titmeadow_join_by_differences}, {JOIN_BY_WEIGHTS, titmeadow_join_by_weights}};
 /* Those that no input gives: the listing program alone reads texts. */
 static const size_t never[] = {TITMEADOW_TEXT};
 

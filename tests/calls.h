@@ -14,7 +14,8 @@ enum { BLOCK = TITMEADOW_BLOCK_BYTES };
 
 /* the exported calls; tests/calls.c has the refusals that each can give */
 enum call {
-    PLAN, JUDGE, DEAL, DEAL_BY_SETS, JOIN, JOIN_BY_DIFFERENCES, OPEN, SALVAGE, PACK, UNPACK, DEAL_KEY, JOIN_KEY, ADD, DESK_OPEN, DESK_HAND_IN, DESK_ASK, DESK_CLOSE,
+    PLAN, JUDGE, DEAL, DEAL_BY_SETS, JOIN, JOIN_BY_DIFFERENCES, JOIN_BY_WEIGHTS, OPEN, SALVAGE, PACK, UNPACK, DEAL_KEY, JOIN_KEY, ADD, DESK_OPEN,
+    DESK_HAND_IN, DESK_ASK, DESK_CLOSE,
     CALLS
 };
 
@@ -28,6 +29,13 @@ void keys(void);
 void adding(void);
 void renewal(void);
 void desk(void);
+
+/* The joiners: every case of joining is run over each. */
+enum { JOINERS = 3 };
+extern const struct joiner {
+    enum call call;
+    titmeadow_answer (*join)(const uint8_t *pile, size_t length, uint16_t *secret, size_t room);
+} joiners[JOINERS];
 
 /* Paints the field anew, and lends from its middle. */
 uint16_t *lend(void);

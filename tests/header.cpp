@@ -21,6 +21,7 @@ int main() {
     good &= titmeadow_add(card, TITMEADOW_BLOCK_BYTES, card, TITMEADOW_BLOCK_BYTES, 7, 2026, nullptr, 0).number == TITMEADOW_DEAL;
     good &= titmeadow_join(card, TITMEADOW_BLOCK_BYTES, secret, TITMEADOW_SECRET_MOST).number == TITMEADOW_SHORT;
     good &= titmeadow_join_by_differences(card, TITMEADOW_BLOCK_BYTES, secret, TITMEADOW_SECRET_MOST).number == TITMEADOW_SHORT;
+    good &= titmeadow_join_by_weights(card, TITMEADOW_BLOCK_BYTES, secret, TITMEADOW_SECRET_MOST).number == TITMEADOW_SHORT;
     titmeadow_desk desk = TITMEADOW_DESK_FRESH;
     good &= titmeadow_desk_open(&desk, 2, 7, 4, 3, 1, 2026).a == 3 && desk.two.pieces == 3 && desk.one.pieces == 0;
     good &= titmeadow_desk_hand_in(&desk, 2, card, TITMEADOW_BLOCK_BYTES).a == 1 && desk.slots[(TITMEADOW_SLOTS - 1) * TITMEADOW_SLOT_NUMBERS] == 1;

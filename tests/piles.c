@@ -1,18 +1,12 @@
 /* Joining and opening: every refusal of theirs, results, and the limits from both sides. */
 #include "calls.h"
 
-/* The joiners: every case of joining is run over each. */
-static const struct {
-    enum call call;
-    titmeadow_answer (*join)(const uint8_t *pile, size_t length, uint16_t *secret, size_t room);
-} joiners[] = {{JOIN, titmeadow_join}, {JOIN_BY_DIFFERENCES, titmeadow_join_by_differences}};
-
 /* A pile, and how it was before the call. */
 static uint8_t pile[TITMEADOW_PILE_MOST + 2][BLOCK], kept[sizeof pile];
 
 /* The first `length` bytes of the pile, NULL where there are none, joined by each joiner into `room` words, NULL alike. */
 static void joined(const char *what, size_t length, size_t room, titmeadow_answer want, const uint16_t *secret) {
-    for (size_t i = 0; i < COUNT(joiners); i++) {
+    for (size_t i = 0; i < JOINERS; i++) {
         uint16_t *out = lend();
         memcpy(kept, pile, sizeof pile);
         titmeadow_answer got = joiners[i].join(length == 0 ? NULL : pile[0], length, room == 0 ? NULL : out, room);

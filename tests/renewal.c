@@ -1,4 +1,4 @@
-/* A deal whose cards are renewed, by dealing and adding, and joined by every group, by both joiners; old and new cards together. */
+/* A deal whose cards are renewed, by dealing and adding, and joined by every group, by every joiner; old and new cards together. */
 #include "calls.h"
 
 /* P11's deal renewed: the cards of deal 7 and of a deal 8 of the word 0, coefficients 32748 and 1 (pieces 0, 2, 6), are dealt and added block for block
@@ -34,11 +34,11 @@ void renewal(void) {
             count += seen >> piece & 1;
         const int opens = (group & 3) == 3 || (group & 6) == 6 || (group & 12) == 12;
         titmeadow_answer want = opens ? done(1) : refused(TITMEADOW_SHORT, count, group == 0 ? 0 : 3);
-        uint16_t *out = lend();
-        is(JOIN, "new cards of a group", titmeadow_join(group == 0 ? NULL : pile[0], BLOCK * length, out, 1), want, LISTED(1234), opens ? 2 : 0);
-        out = lend();
-        is(JOIN_BY_DIFFERENCES, "new cards of a group", titmeadow_join_by_differences(group == 0 ? NULL : pile[0], BLOCK * length, out, 1), want,
-           LISTED(1234), opens ? 2 : 0);
+        for (size_t i = 0; i < JOINERS; i++) {
+            uint16_t *out = lend();
+            is(joiners[i].call, "new cards of a group", joiners[i].join(group == 0 ? NULL : pile[0], BLOCK * length, out, 1), want, LISTED(1234),
+               opens ? 2 : 0);
+        }
     }
     /* old and new together: holder 1 has one block, holder 2 has two */
     uint16_t *out = lend();

@@ -98,13 +98,13 @@ static void dealing(void) {
     is(DEAL_BY_SETS, "all eight of eight", titmeadow_deal_by_sets(8, LIST(255), NONE, 7, 0, 5, LIST(1234), zeros, 7, (uint8_t *)lend(), BLOCK), done(1), card, BLOCK);
 }
 
-/* These blocks as a pile, by both joiners, into one word; a result is that word. */
+/* These blocks as a pile, by every joiner, into one word; a result is that word. */
 static void joined(const char *what, titmeadow_answer want, uint16_t word, size_t count, uint8_t *const *blocks) {
     static uint8_t pile[8][BLOCK];
     for (size_t i = 0; i < count; i++)
         memcpy(pile[i], blocks[i], BLOCK);
-    is(JOIN, what, titmeadow_join(pile[0], count * BLOCK, lend(), 1), want, &word, want.number == 0 ? 2 : 0);
-    is(JOIN_BY_DIFFERENCES, what, titmeadow_join_by_differences(pile[0], count * BLOCK, lend(), 1), want, &word, want.number == 0 ? 2 : 0);
+    for (size_t i = 0; i < JOINERS; i++)
+        is(joiners[i].call, what, joiners[i].join(pile[0], count * BLOCK, lend(), 1), want, &word, want.number == 0 ? 2 : 0);
 }
 #define JOINS(what, word, ...) joined(what, done(1), word, COUNT(((uint8_t *[]){__VA_ARGS__})), (uint8_t *[]){__VA_ARGS__})
 #define JOINED(what, number, a, b, ...) joined(what, refused(number, a, b), 0, COUNT(((uint8_t *[]){__VA_ARGS__})), (uint8_t *[]){__VA_ARGS__})

@@ -30,10 +30,13 @@ static void deal_by_sets(void) {
 }
 static void join_sets(void) { sink = titmeadow_join(sets_pile, sets_piled, words, 16).a; }
 static void join_sets_by_differences(void) { sink = titmeadow_join_by_differences(sets_pile, sets_piled, words, 16).a; }
+static void join_sets_by_weights(void) { sink = titmeadow_join_by_weights(sets_pile, sets_piled, words, 16).a; }
 static void join(void) { sink = titmeadow_join(pile, piled, words, 16).a; }
 static void join_by_differences(void) { sink = titmeadow_join_by_differences(pile, piled, words, 16).a; }
+static void join_by_weights(void) { sink = titmeadow_join_by_weights(pile, piled, words, 16).a; }
 static void join_few(void) { sink = titmeadow_join(few, fewer, words, 16).number; }
 static void join_few_by_differences(void) { sink = titmeadow_join_by_differences(few, fewer, words, 16).number; }
+static void join_few_by_weights(void) { sink = titmeadow_join_by_weights(few, fewer, words, 16).number; }
 static void open(void) { sink = titmeadow_open(pile, piled, head).a; }
 static void salvage(void) {
     pile[14] = 0x7f, pile[15] = 0xff; /* a value of block 1, which comes back */
@@ -220,7 +223,7 @@ int main(void) {
     mark(8, 70);
     struct { const char *name; void (*f)(void); } calls[] = {
         {"titmeadow_plan", plan}, {"titmeadow_judge", judge}, {"titmeadow_deal", deal}, {"titmeadow_deal_by_sets", deal_by_sets},
-        {"titmeadow_join", join}, {"titmeadow_join_by_differences", join_by_differences},
+        {"titmeadow_join", join}, {"titmeadow_join_by_differences", join_by_differences}, {"titmeadow_join_by_weights", join_by_weights},
         {"titmeadow_open", open}, {"titmeadow_salvage", salvage}, {"titmeadow_pack", pack}, {"titmeadow_unpack", unpack},
         {"titmeadow_deal_key", deal_key}, {"titmeadow_join_key", join_key}, {"titmeadow_add", add},
         {"titmeadow_desk_open", desk_open}, {"titmeadow_desk_hand_in", desk_hand_in}, {"titmeadow_desk_ask", desk_ask}, {"titmeadow_desk_close", desk_close}};
@@ -236,8 +239,10 @@ int main(void) {
     }
     printf("| `titmeadow_join`, by sets | %zu |\n", used(join_sets) - base);
     printf("| `titmeadow_join_by_differences`, by sets | %zu |\n", used(join_sets_by_differences) - base);
+    printf("| `titmeadow_join_by_weights`, by sets | %zu |\n", used(join_sets_by_weights) - base);
     over_k("titmeadow_join", join_few, base);
     over_k("titmeadow_join_by_differences", join_few_by_differences, base);
+    over_k("titmeadow_join_by_weights", join_few_by_weights, base);
     over_k("titmeadow_desk_hand_in", few_hand_in, base);
     over_k("titmeadow_desk_ask", few_ask, base);
     over_lists(base);

@@ -6,7 +6,7 @@ pub type Said = Result<usize, Refusal>;
 
 pub struct Calls {
     pub deal_by_sets: fn(&Deal, usize, &mut [u8]) -> Said,
-    pub join: [fn(&[u8], &mut [u16]) -> Said; 2],
+    pub joiners: &'static [fn(&[u8], &mut [u16]) -> Said],
     pub open: fn(&[u8]) -> Result<[u16; 7], Refusal>,
     pub add: fn(&[u8], &[u8], usize, usize, &mut [u8]) -> Said,
     pub hand_in: fn(&mut Desk, &[u8]) -> Said,
@@ -15,7 +15,7 @@ pub struct Calls {
 
 pub const INDEPENDENT: Calls = Calls {
     deal_by_sets: reference::deal_by_sets,
-    join: [reference::join, reference::join_by_differences],
+    joiners: &[reference::join, reference::join_by_differences],
     open: reference::open,
     add: reference::add,
     hand_in: |desk, block| desk.hand_in(2, block),
@@ -24,7 +24,7 @@ pub const INDEPENDENT: Calls = Calls {
 
 pub const LIBRARY: Calls = Calls {
     deal_by_sets: unit::deal_by_sets,
-    join: [unit::join, unit::join_by_differences],
+    joiners: &unit::JOINERS,
     open: |pile| {
         let mut head = [0; 7];
         unit::open(pile, &mut head).map(|_| head)
@@ -58,9 +58,9 @@ impl Calls {
         people.iter().flat_map(|person| self.card(d, *person)).collect()
     }
 
-    /// Both joiners say this of a pile, and write these words over the front of the lent ones.
+    /// All joiners say this of a pile, and write these words over the front of the lent ones.
     pub fn joins(&self, what: &str, pile: &[u8], room: usize, said: Said, words: &[u16]) {
-        for join in self.join {
+        for join in self.joiners {
             let mut out = vec![9; room];
             assert_eq!(join(pile, &mut out), said, "{what}");
             assert_eq!((&out[..words.len()], &out[words.len()..]), (words, &vec![9; room - words.len()][..]), "{what}");

@@ -63,6 +63,14 @@ pub fn join_by_differences(pile: &[u8], out: &mut [u16]) -> Result<usize, Refusa
     calls::join_by_differences(pile, out).result()
 }
 
+/// The same by weights that are ready made.
+pub fn join_by_weights(pile: &[u8], out: &mut [u16]) -> Result<usize, Refusal> {
+    calls::join_by_weights(pile, out).result()
+}
+
+/// All joiners: every pile goes through each.
+pub const JOINERS: [fn(&[u8], &mut [u16]) -> Result<usize, Refusal>; 3] = [join, join_by_differences, join_by_weights];
+
 /// Words 1 to 7 of the first block.
 pub fn open(pile: &[u8], head: &mut [u16; 7]) -> Result<usize, Refusal> {
     calls::open(pile, head).result()

@@ -3,10 +3,7 @@
 use bench::inputs::{blocks, card, with_word};
 use bench::mixed::relabel;
 use bench::reference::{block_words, bytes_of, Deal, Refusal, BLOCK};
-use bench::unit;
-
-/// Both joiners: every case of joining goes through each.
-const JOINERS: [fn(&[u8], &mut [u16]) -> Result<usize, Refusal>; 2] = [unit::join, unit::join_by_differences];
+use bench::unit::{self, JOINERS};
 
 fn p7() -> Deal {
     Deal { people: 4, required: vec![3, 6, 12], forbidden: vec![9], number: 7, year: 0, secret: vec![1234], random: vec![5, 7] }

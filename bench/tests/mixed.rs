@@ -84,7 +84,7 @@ fn mixed_piles() {
         let mut theirs = before.clone();
         let expected = reference::join(&pile, &mut theirs);
         met.note(&expected);
-        for join in [unit::join, unit::join_by_differences, reference::join_by_differences] {
+        for join in unit::JOINERS.into_iter().chain([reference::join_by_differences as fn(&_, &mut _) -> _]) {
             let mut ours = before.clone();
             assert_eq!(join(&pile, &mut ours), expected, "{shape}");
             assert_eq!(ours, theirs, "{shape}");

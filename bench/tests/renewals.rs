@@ -37,7 +37,7 @@ fn joins(kinds: &mut Kinds, d: &Deal, cards: &[Vec<u8>], group: u16, secret: &[u
     let pile = gathered(cards, group);
     let k = reference::plan(d.people, &d.required, &d.forbidden).unwrap().len();
     let pieces: BTreeSet<u8> = pile.chunks(BLOCK).map(|block| block[13]).collect();
-    for join in [unit::join, unit::join_by_differences] {
+    for join in unit::JOINERS {
         let mut out = [9; 16];
         let said = join(&pile, &mut out);
         let mut want = [9; 16];

@@ -64,7 +64,7 @@ fn by_sets() {
     assert!(cat(&["two_schemes"])[BLOCK..] == cat(&["sets1", "sets2", "sets3"]));
 }
 
-/// The cards that are kept of the time when blocks had no year: 0 in word 24, and else the cards of 2026 but for the check. By both joiners they
+/// The cards that are kept of the time when blocks had no year: 0 in word 24, and else the cards of 2026 but for the check. By every joiner they
 /// join as they did; some of them are SHORT, and with a card of 2026 they are MIXED.
 #[test]
 fn the_former_layout() {
@@ -80,7 +80,7 @@ fn the_former_layout() {
         }
     }
     let names = names.each_ref().map(|name| name.as_str());
-    for join in [unit::join, unit::join_by_differences] {
+    for join in unit::JOINERS {
         let mut out = [9; 5];
         assert_eq!((join(&cat(&names), &mut out), out), (Ok(4), [1234, 0, 32748, 5678, 9]));
         assert_eq!(join(&cat(&names[..2]), &mut out).map_err(|r| r.number), Err(20));

@@ -159,7 +159,7 @@ fn piles() {
             let expected = reference::join(&pile, &mut theirs);
             met.note(&expected);
             describe(&mut kinds, &faults, &pile, &expected);
-            for join in [unit::join, unit::join_by_differences, reference::join_by_differences] {
+            for join in unit::JOINERS.into_iter().chain([reference::join_by_differences as fn(&_, &mut _) -> _]) {
                 let mut ours = before.clone();
                 assert_eq!(join(&pile, &mut ours), expected, "{faults:?} {s:?}");
                 assert_eq!(ours, theirs, "{faults:?} {s:?}");

@@ -31,7 +31,7 @@ fn read(block: &[u8], want: Result<(), (usize, usize)>) {
     let mut second = first.clone();
     second[..BLOCK].copy_from_slice(&bytes_of(&block_words([1987, 7, 2, 4, 1, w as u16, 1], &values, words_of(block)[23].min(32748))));
     for (pile, a) in [(&first, 1), (&second, 2)] {
-        for join in [unit::join, unit::join_by_differences, reference::join] {
+        for join in unit::JOINERS.into_iter().chain([reference::join as fn(&_, &mut _) -> _]) {
             let mut out = vec![9; 16];
             assert_eq!(join(pile, &mut out), all(a).map(|()| w));
             assert!(out == if want.is_ok() { [&values[..], &[9; 16][w..]].concat() } else { vec![9; 16] });
@@ -208,7 +208,7 @@ fn piles_of_two_years() {
             let pile = pile.concat();
             let mut theirs = [9; 16];
             let expected = reference::join(&pile, &mut theirs);
-            for join in [unit::join, unit::join_by_differences] {
+            for join in unit::JOINERS {
                 let mut ours = [9; 16];
                 assert_eq!((join(&pile, &mut ours), ours), (expected, theirs), "{d:?} {year}");
             }
@@ -266,7 +266,7 @@ fn cards_of_the_former_layout() {
                 pile.extend(if n.once_in(2) { former(&d, holder) } else { out[..count * BLOCK].to_vec() });
             }
         }
-        for join in [unit::join, unit::join_by_differences] {
+        for join in unit::JOINERS {
             let (mut out, mut want) = ([9; 16], [9; 16]);
             let said = join(&pile, &mut out);
             if d.required.iter().any(|set| set & !group == 0) {

@@ -57,6 +57,7 @@ extern "C" {
     ) -> Answer;
     fn titmeadow_join(pile: *const u8, length: usize, secret: *mut u16, room: usize) -> Answer;
     fn titmeadow_join_by_differences(pile: *const u8, length: usize, secret: *mut u16, room: usize) -> Answer;
+    fn titmeadow_join_by_weights(pile: *const u8, length: usize, secret: *mut u16, room: usize) -> Answer;
     fn titmeadow_open(pile: *const u8, length: usize, head: *mut u16) -> Answer;
     fn titmeadow_salvage(pile: *mut u8, length: usize, list: *mut u16, numbers: usize) -> Answer;
     fn titmeadow_add(
@@ -176,6 +177,10 @@ pub fn join(pile: &[u8], out: &mut [u16]) -> Answer {
 
 pub fn join_by_differences(pile: &[u8], out: &mut [u16]) -> Answer {
     unsafe { titmeadow_join_by_differences(pile.as_ptr(), pile.len(), out.as_mut_ptr(), out.len()) }
+}
+
+pub fn join_by_weights(pile: &[u8], out: &mut [u16]) -> Answer {
+    unsafe { titmeadow_join_by_weights(pile.as_ptr(), pile.len(), out.as_mut_ptr(), out.len()) }
 }
 
 pub fn open(pile: &[u8], head: &mut [u16; 7]) -> Answer {

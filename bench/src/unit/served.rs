@@ -102,6 +102,10 @@ pub fn join_by_differences(pile: &[u8], out: &mut [u16]) -> Answer {
     ask_words(5, [0; 4], [pile, &[], &[], &[]], out)
 }
 
+pub fn join_by_weights(pile: &[u8], out: &mut [u16]) -> Answer {
+    ask_words(21, [0; 4], [pile, &[], &[], &[]], out)
+}
+
 pub fn open(pile: &[u8], head: &mut [u16; 7]) -> Answer {
     ask_words(4, [0; 4], [pile, &[], &[], &[]], head)
 }

@@ -1,4 +1,4 @@
-// Dealing by the required sets (SCOPE 3.2): each minimal required set is a deal of its own, whose j-th member holds piece j alone.
+// Dealing by the required sets (SCOPE 3.2): every minimal one has a deal by itself, with a piece for each of its members.
 // The definitions that the contracts cite are in specs/, in SCOPE's terms and order.
 mod card;
 

@@ -9,6 +9,8 @@ use Rattle.field.specs.Poly.{value}
 use Rattle.lists.specs.Run.{run}
 use Rattle.field.specs.Joined.{joined, joinedIn, diffs}
 use Rattle.field.specs.Differences.{rowsIn, rows, firsts, withPlus, withMinus, alternating, byDifferences}
+use Rattle.field.specs.Lagrange.{weighed}
+use Rattle.triangle.specs.Triangle.{choose, weight}
 use Rattle.prime.specs.Prime.{minus}
 use Rattle.planning.specs.Sets.{member, inside, stranger, memberCount, oneMember, marks}
 use Rattle.lists.specs.Some.{each, some}
@@ -22,7 +24,7 @@ use Rattle.cases.proofs.Listing.{prints}
 use Rattle.cases.proofs.Bytes.{the-block, the-year, dealt, short-two}
 
 pub table : Table
-unfolding planned plannedRows rowsOf marks planLines listLines people long strangers nobody opens lone clashPlace clash firstFail firstFrom firstPlace those member each inside stranger memberCount oneMember some authorised tight maximalBy groupsBy holds held set run value joined joinedIn diffs rowsIn rows firsts withPlus withMinus alternating byDifferences minus
+unfolding planned plannedRows rowsOf marks planLines listLines people long strangers nobody opens lone clashPlace clash firstFail firstFrom firstPlace those member each inside stranger memberCount oneMember some authorised tight maximalBy groupsBy holds held set run value joined joinedIn diffs rowsIn rows firsts withPlus withMinus alternating byDifferences minus choose weight weighed
 table =
     record {
       p1 = (record { answer = refl; groups-are = refl; rows = refl }, refl, prints);
@@ -34,6 +36,7 @@ table =
       p7 = refl;
       p8 = refl;
       p8-by-differences = (refl, refl, refl, refl);
+      p8-by-weights = refl;
       p9 = refl;
       p10 = (refl, refl);
       p11 = (the-block, λ out room. (dealt out room, dealing.result-writes deal11 4 out 1 (dealt out room) .3 ∙ ap (λ b. b ++ drop 512 out) the-block));

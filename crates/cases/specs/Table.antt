@@ -1,15 +1,18 @@
--- SCOPE 8.1: P1 to P12, with P8 by differences too, in its order and with its figures, each over the definitions that the promises cite.
+-- SCOPE 8.1: P1 to P12, with P8 by differences and by weights too, in its order and with its figures, each over the definitions that the promises cite.
 -- Assumes nothing.
 use mathlib.Core.Path.{_≡_}
 use mathlib.Core.List.{List, [], _∷_, _++_, map}
-use Prim.Native.Nat.{ℕ, _≤_}
+use Prim.Native.Nat.{ℕ, _%_, _≤_}
 use lib.ListN.{length, drop, replicate}
 use Rattle.answer.specs.declared.Kind.the-variants.{Lone, Clash, Short}
 use Rattle.answer.specs.Outcome.{done, refused, number}
+use Rattle.prime.specs.Prime.{p}
 use Rattle.field.specs.Poly.{piece}
 use Rattle.lists.specs.Run.{run}
 use Rattle.field.specs.Joined.{joined}
 use Rattle.field.specs.Differences.{rows, firsts, alternating, byDifferences}
+use Rattle.field.specs.Lagrange.{weighed}
+use Rattle.triangle.specs.Triangle.{weight}
 use Rattle.planning.specs.Groups.{held}
 use Rattle.planning.specs.Policy.{Policy, policyOf}
 use Rattle.planning.specs.Planned.{planned}
@@ -93,6 +96,8 @@ pub record Table : Type 0 where
       × (firsts (1246 ∷ 1272 ∷ 1312 ∷ []) ≡ 1246 ∷ 26 ∷ 14 ∷ [])
       × (alternating (1246 ∷ 26 ∷ 14 ∷ []) ≡ 1234)
       × (byDifferences (1246 ∷ 1272 ∷ 1312 ∷ []) ≡ 1234)
+  -- the same by weights, which are 3, 32746 and 1: 3 · 1246 + 32746 · 1272 + 1312 mod p
+  pub p8-by-weights : weighed (weight 3) 1 (1246 ∷ 1272 ∷ 1312 ∷ []) % p ≡ 1234
   -- the pieces of the word 32748 with the coefficients 1 and 0
   pub p9 : run (piece 32748 (1 ∷ 0 ∷ [])) 1 3 ≡ 0 ∷ 1 ∷ 2 ∷ []
   -- the word 0 with the coefficients 23483 and 10512: its pieces 1 and 3 are as in P7

@@ -33,7 +33,7 @@ use Rattle.joining.specs.Laws.{JoinPromised}
 
 -- A call is planning::plan, dealing::deal, joining::join, joining::join_by_differences or block::open; specs/Readings has the others. None has
 -- a `requires`, so each takes every input; that it ends is what proving a function shows; and its contract says that its answer is `planned`,
--- `dealing`, `joining` or `opening` of its arguments: `joining` of both joiners.
+-- `dealing`, `joining` or `opening` of its arguments: `joining` of all three joiners.
 
 -- ---- in its result or in a refusal
 -- the refusal m, a, b is that of the first of the lines that is given: those before it pass
@@ -145,7 +145,7 @@ DealKeeps = (d : Deal) (holder : ℕ) (out : List ℕ) (m a b : ℕ) → dealing
 abbrev pub JoinKeeps : Type 0
 JoinKeeps = (pile out : List ℕ) (m a b : ℕ) → joining pile (length out) ≡ refused m a b → joinedInto pile out ≡ out
 
--- ---- So of either joiner: whatever answer and output its promise allows, it ends as said of joining, with no other refusal, and where it
+-- ---- So of each joiner: whatever answer and output its promise allows, it ends as said of joining, with no other refusal, and where it
 -- refuses, the output is as it was lent.
 abbrev pub EitherJoins : Type 0
 EitherJoins = (pile old : List ℕ) (x : Answer) (out : List ℕ) → JoinPromised pile old x out

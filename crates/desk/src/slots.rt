@@ -153,7 +153,7 @@ pub fn write_secret(slots: &[u16; 1190], o: Opening, client: usize, out: &mut [u
 {
     let k = o.pieces;
     let w = o.width;
-    let weights = field::weights(k);
+    let weights = triangle::weights(k);
     let mut values = [0u16; 70];
     let mut i: usize = 0;
     while i < w {

@@ -10,17 +10,12 @@ use lib.ListN.{length, getD}
 use Rattle.prime.specs.Prime.{p, Below}
 use Rattle.field.specs.Poly.{value, Through}
 use Rattle.field.specs.Joined.{joined}
-use Rattle.field.specs.Lagrange.{lagrangeWeight}
+use Rattle.field.specs.Lagrange.{lagrangeWeight, weighed}
 use Rattle.prime.proofs.Mod.{_≈_, _then_, from≡, add≈, mul≈, mul≈₂, small}
 use Rattle.field.proofs.Sums.{below-nil, plusTimes, plus-times-value, plus-times-length, plus-times-below}
 use Rattle.field.proofs.Unique.{value-zero, joined-value}
 use Rattle.field.proofs.Loosened.{loose, loose-none, loose-length}
 use Rattle.field.proofs.Products.{weight-one}
-
--- the pieces, the first of them piece j, each times its weight w j
-unfoldable pub weighed : (ℕ → ℕ) → ℕ → List ℕ → ℕ
-weighed w j [] = 0
-weighed w j (y ∷ ys) = w j * y + weighed w (suc j) ys
 
 -- where all weights are 0, and where all but that of piece x, which is 1
 weighed-none : (w : ℕ → ℕ) (j : ℕ) (ys : List ℕ) → ((i : ℕ) → j ≤ i → i < j + length ys → w i ≈ 0) → weighed w j ys ≈ 0

@@ -79,7 +79,7 @@ joined-run (suc n) f d x =
     then add≈ (from≡ refl) (mul≈ 32748 (joined-run n (rise f) d x then rise≈ f x))
     then omega arith
 
-joined-below : (n : ℕ) (ys : List ℕ) → joinedIn n ys < p
+pub joined-below : (n : ℕ) (ys : List ℕ) → joinedIn n ys < p
 unfolding joinedIn
 joined-below zero ys = lit< tt
 joined-below (suc n) [] = lit< tt

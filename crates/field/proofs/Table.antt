@@ -11,10 +11,10 @@ use lib.Seq.{drop-cons, drop-length, set-at, append-snoc}
 use Rattle.prime.specs.Prime.{p, Below}
 use Rattle.lists.specs.Run.{run}
 use Rattle.field.specs.Joined.{joined}
-use Rattle.field.specs.Lagrange.{lagrangeWeight, Weights, weightsOf}
+use Rattle.field.specs.Lagrange.{lagrangeWeight, Weights, weightsOf, weighed}
 use Rattle.lists.proofs.RunLaws.{run-length, run-at, run-end}
 use Rattle.field.proofs.Products.{weight-small}
-use Rattle.field.proofs.Curve.{weighed, by-weights}
+use Rattle.field.proofs.Curve.{by-weights}
 
 -- ---- the table with the weights of pieces 1 to j
 pub record Filled (k j : ℕ) (table : List ℕ) : Type 0 where

@@ -2,8 +2,8 @@
 -- Assumes nothing.
 use mathlib.Core.Path.{_≡_}
 use mathlib.Core.Bool.{cond}
-use mathlib.Core.List.{List, _++_}
-use Prim.Native.Nat.{ℕ, zero, suc, _-_, _*_, _%_, _≤_}
+use mathlib.Core.List.{List, [], _∷_, _++_}
+use Prim.Native.Nat.{ℕ, zero, suc, _+_, _-_, _*_, _%_, _≤_}
 use lib.Dec.{eqb}
 use lib.ListN.{getD, replicate}
 use Rattle.prime.specs.Prime.{p, minus}
@@ -26,3 +26,8 @@ pub record Weights (k : ℕ) (ws : List ℕ) : Type 0 where
 -- the weights of pieces 1 to k, in a table of 70 places that has 0 past them
 unfoldable pub weightsOf : ℕ → List ℕ
 weightsOf k = run (lagrangeWeight k) 1 k ++ replicate (70 - k) 0
+
+-- the sum of the pieces, the first of them piece j, each times its weight w j, not reduced
+unfoldable pub weighed : (ℕ → ℕ) → ℕ → List ℕ → ℕ
+weighed w j [] = 0
+weighed w j (y ∷ ys) = w j * y + weighed w (suc j) ys

@@ -2,14 +2,18 @@
 use mathlib.Core.Path.{_≡_, sym, ap, _∙_}
 use mathlib.Core.Bool.{true, false, false≢true}
 use mathlib.Core.List.{_++_}
-use Prim.Native.Nat.{ℕ}
+use Prim.Native.Nat.{ℕ, _%_}
 use native.Mathlib.Omega.{arith}
 use lib.ListN.{length, drop}
 use Rattle.lists.specs.Over.{over}
 use Rattle.answer.proofs.LentLaws as lent
 use Rattle.field.specs.Secret.{column}
-use Rattle.field.proofs.SecretLaws.{secret-length, secret-at}
+use Rattle.field.proofs.SecretLaws.{secret-length, secret-at, column-length}
 use Rattle.field.proofs.Laws.{by-differences}
+use Rattle.prime.specs.Prime.{p}
+use Rattle.field.specs.Lagrange.{weighed}
+use Rattle.triangle.specs.Triangle.{weight}
+use Rattle.triangle.proofs.Laws.{by-weights}
 use Rattle.block.specs.declared.deal.DealWords.{DealWords}
 use Rattle.joining.specs.Pile.{ownPieces, ownWidth, valueAt}
 use Rattle.joining.specs.Joined.{joining, joinedInto}
@@ -128,6 +132,13 @@ joiners-agree = written.joiners-agree
 pub secret-by-differences : law.SecretByDifferences
 secret-by-differences pile i l h =
     secret-at (valueAt pile) (ownPieces pile) (ownWidth pile) i l h ∙ sym (by-differences (column (valueAt pile) (ownPieces pile) i))
+
+pub secret-by-weights : law.SecretByWeights
+secret-by-weights pile i l h =
+    let ys = column (valueAt pile) (ownPieces pile) i in
+    secret-at (valueAt pile) (ownPieces pile) (ownWidth pile) i l h
+    ∙ by-weights ys
+    ∙ ap (λ (k : ℕ). weighed (weight k) 1 ys % p) (column-length (valueAt pile) (ownPieces pile) i)
 
 pub first-scheme : law.FirstScheme
 first-scheme pile room other = earlier.as-before true pile other (λ e. absurd (false≢true (sym e))) room

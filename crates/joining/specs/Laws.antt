@@ -15,7 +15,9 @@ use Rattle.lists.specs.Places.{found}
 use Rattle.prime.specs.Prime.{p, Below}
 use Rattle.field.specs.Poly.{value, One}
 use Rattle.field.specs.Differences.{byDifferences}
+use Rattle.field.specs.Lagrange.{weighed}
 use Rattle.field.specs.Secret.{column}
+use Rattle.triangle.specs.Triangle.{weight}
 use Rattle.block.specs.declared.deal.DealWords.{DealWords}
 use Rattle.block.specs.Layout.{rightAt}
 use Rattle.block.specs.Open.{above, TrueBlock}
@@ -215,13 +217,13 @@ ResultWrites = (pile old : List ℕ) (w : ℕ) → joining pile (length old) ≡
 abbrev pub RefusalKeeps : Type 0
 RefusalKeeps = (pile old : List ℕ) (m a b : ℕ) → joining pile (length old) ≡ refused m a b → joinedInto pile old ≡ old
 
--- ---- two joiners
--- what `join` and `join_by_differences` alike promise of their answer x and of the output a, lent as old: the two clauses of either contract
+-- ---- three joiners
+-- what `join`, `join_by_differences` and `join_by_weights` alike promise of their answer x and of the output a, lent as old: the two clauses of each contract
 pub record JoinPromised (pile old : List ℕ) (x : Answer) (a : List ℕ) : Type 0 where
   pub says : outcome x ≡ joining pile (length old)
   pub leaves : a ≡ joinedInto pile old
 
--- On every pile and every lent output: an answer and an output that the one joiner's promise allows are those that the other's allows.
+-- On every pile and every lent output: an answer and an output that the one joiner's promise allows are those that another's allows.
 abbrev pub JoinersAgree : Type 0
 JoinersAgree = (pile old : List ℕ) (x y : Answer) (a b : List ℕ) → JoinPromised pile old x a → JoinPromised pile old y b → (x ≡ y) × (a ≡ b)
 
@@ -230,6 +232,11 @@ JoinersAgree = (pile old : List ℕ) (x y : Answer) (a b : List ℕ) → JoinPro
 abbrev pub SecretByDifferences : Type 0
 SecretByDifferences = (pile : List ℕ) (i : ℕ) → 1 ≤ i → i ≤ ownWidth pile
     → getD (secret pile) (i - 1) 0 ≡ byDifferences (column (valueAt pile) (ownPieces pile) i)
+
+-- And it is the sum of those values, each times the weight of its piece, mod p.
+abbrev pub SecretByWeights : Type 0
+SecretByWeights = (pile : List ℕ) (i : ℕ) → 1 ≤ i → i ≤ ownWidth pile
+    → getD (secret pile) (i - 1) 0 ≡ weighed (weight (ownPieces pile)) 1 (column (valueAt pile) (ownPieces pile) i) % p
 
 -- ---- cards made before there were sets, and before there was a year
 -- joining answers what it answered, and where that is a result, gives the secret that it gave

@@ -1,4 +1,4 @@
-// Joining: a pile of card blocks to its secret, by one of two joiners with the same checks and the same promise. The checks are in checks.rt,
+// Joining: a pile of card blocks to its secret, by one of three joiners with the same checks and the same promise. The checks are in checks.rt,
 // the deal that a pile is of in heaps.rt, where its pieces lie and which are taken in places.rt, the secret by weights in secret.rt, by differences in
 // differences.rt; the definitions that the contracts cite are in specs/, under the functions' names.
 mod checks;
@@ -50,6 +50,26 @@ pub fn join_by_differences(pile: &[u8], out: &mut [u16]) -> Answer
             let pieces = part.pieces;
             let end = before + pieces;
             write_by_differences(pile, &table[before..end], w, out);
+            Answer::Done(w)
+        }
+        Answer::Refused(r) => Answer::Refused(r),
+    }
+}
+
+// The same by weights that are ready made, for a unit that joins all day.
+pub fn join_by_weights(pile: &[u8], out: &mut [u16]) -> Answer
+    ensures says { λ r. ⌜ outcome r ≡ joining (now (pile .entry)) (length (now (out .entry))) ⌝ }
+    ensures leaves { λ r. ⌜ now (out .exit) ≡ joinedInto (now (pile .entry)) (now (out .entry)) ⌝ }
+{
+    let mut table = [0u16; 560];
+    match check_join(pile, out.len(), &mut table) {
+        Answer::Done(w) => {
+            let part = taken(pile, &table);
+            let before = part.before;
+            let pieces = part.pieces;
+            let end = before + pieces;
+            let weights = triangle::weights(pieces);
+            write_secret(pile, &table[before..end], w, &weights, out);
             Answer::Done(w)
         }
         Answer::Refused(r) => Answer::Refused(r),

@@ -51,7 +51,7 @@ FewSets = (n : ℕ) (required : List ℕ) → n ≤ 8 → setCount n required �
 abbrev pub FewWith : Type 0
 FewWith = (n : ℕ) (required : List ℕ) → n ≤ 8 → (i : ℕ) → 1 ≤ i → i ≤ n → length (setsWith (minimals n required) i (setCount n required)) ≤ 35
 
--- A group is authorised exactly when it contains one of them whole.
+-- Who may open: the groups with one of them inside, and no others.
 abbrev pub ContainsOne : Type 0
 ContainsOne = (n : ℕ) (required : List ℕ) → Known n required → (g : ℕ)
     → (authorised required g ≡ true) ↔ ((s : ℕ) × (1 ≤ s) × (s ≤ setCount n required) × (inside (setOf n required s) g ≡ true))

@@ -108,59 +108,59 @@ fn lay(pile: &mut [u8], a: usize, n: usize) {
 }
 
 // The pile of that many bytes: the blocks of these four numbers, or of as many as lie in it.
-fn pile(by_differences: bool, name: &[u8], bytes: usize, x: usize, y: usize, z: usize, u: usize) {
+fn pile(joiner: usize, name: &[u8], bytes: usize, x: usize, y: usize, z: usize, u: usize) {
     let mut cards = [0u8; 2048];
     lay(&mut cards, 0, x);
     lay(&mut cards, 1, y);
     lay(&mut cards, 2, z);
     lay(&mut cards, 3, u);
     let mut words = [9u16; 2];
-    front(by_differences, name, &cards, bytes, &mut words);
+    front(joiner, name, &cards, bytes, &mut words);
 }
 
 // Whole cards of two people.
-fn groups(d: bool) {
-    pile(d, b"1 and 2:", 1536, 11, 12, 21, 0);
-    pile(d, b"2 and 1:", 1536, 12, 21, 11, 0);
-    pile(d, b"1 and 3:", 1536, 11, 22, 31, 0);
-    pile(d, b"1 and 4:", 1024, 11, 32, 0, 0);
-    pile(d, b"2 and 3:", 2048, 12, 21, 22, 31);
-    pile(d, b"2 and 4:", 1536, 12, 21, 32, 0);
-    pile(d, b"3 and 4:", 1536, 22, 31, 32, 0);
+fn groups(joiner: usize) {
+    pile(joiner, b"1 and 2:", 1536, 11, 12, 21, 0);
+    pile(joiner, b"2 and 1:", 1536, 12, 21, 11, 0);
+    pile(joiner, b"1 and 3:", 1536, 11, 22, 31, 0);
+    pile(joiner, b"1 and 4:", 1024, 11, 32, 0, 0);
+    pile(joiner, b"2 and 3:", 2048, 12, 21, 22, 31);
+    pile(joiner, b"2 and 4:", 1536, 12, 21, 32, 0);
+    pile(joiner, b"3 and 4:", 1536, 22, 31, 32, 0);
 }
 
 // The smallest set, the highest one, and of two complete sets, one of them altered, the lower.
-fn lowest(d: bool) {
-    pile(d, b"a set of one piece:", 512, 101, 0, 0, 0);
-    pile(d, b"set 70:", 1024, 702, 701, 0, 0);
-    pile(d, b"sets 3 and 1, 3 altered:", 2048, 311, 32, 11, 12);
-    pile(d, b"sets 3 and 1, 1 altered:", 2048, 31, 32, 111, 12);
+fn lowest(joiner: usize) {
+    pile(joiner, b"a set of one piece:", 512, 101, 0, 0, 0);
+    pile(joiner, b"set 70:", 1024, 702, 701, 0, 0);
+    pile(joiner, b"sets 3 and 1, 3 altered:", 2048, 311, 32, 11, 12);
+    pile(joiner, b"sets 3 and 1, 1 altered:", 2048, 31, 32, 111, 12);
 }
 
 // Blocks that contradict each other.
-fn conflicts(d: bool) {
-    pile(d, b"a piece with other values:", 1024, 11, 111, 0, 0);
-    pile(d, b"a piece with another count:", 1024, 11, 112, 0, 0);
-    pile(d, b"a set with another count:", 1024, 12, 112, 0, 0);
-    pile(d, b"other values, third:", 1536, 12, 11, 111, 0);
-    pile(d, b"both, third:", 1536, 12, 11, 113, 0);
-    pile(d, b"one number in two sets:", 1024, 11, 21, 0, 0);
+fn conflicts(joiner: usize) {
+    pile(joiner, b"a piece with other values:", 1024, 11, 111, 0, 0);
+    pile(joiner, b"a piece with another count:", 1024, 11, 112, 0, 0);
+    pile(joiner, b"a set with another count:", 1024, 12, 112, 0, 0);
+    pile(joiner, b"other values, third:", 1536, 12, 11, 111, 0);
+    pile(joiner, b"both, third:", 1536, 12, 11, 113, 0);
+    pile(joiner, b"one number in two sets:", 1024, 11, 21, 0, 0);
 }
 
 // Blocks of both schemes, and headers that neither has.
-fn marks(d: bool) {
-    pile(d, b"a block without sets on top:", 1536, 1, 11, 12, 0);
-    pile(d, b"a block by sets at the end:", 1536, 1, 2, 11, 0);
-    pile(d, b"without sets:", 1024, 1, 2, 0, 0);
-    pile(d, b"set 0:", 512, 900, 0, 0, 0);
-    pile(d, b"set 71:", 512, 971, 0, 0, 0);
-    pile(d, b"five pieces of four people:", 512, 905, 0, 0, 0);
-    pile(d, b"set 1 without sets:", 512, 901, 0, 0, 0);
+fn marks(joiner: usize) {
+    pile(joiner, b"a block without sets on top:", 1536, 1, 11, 12, 0);
+    pile(joiner, b"a block by sets at the end:", 1536, 1, 2, 11, 0);
+    pile(joiner, b"without sets:", 1024, 1, 2, 0, 0);
+    pile(joiner, b"set 0:", 512, 900, 0, 0, 0);
+    pile(joiner, b"set 71:", 512, 971, 0, 0, 0);
+    pile(joiner, b"five pieces of four people:", 512, 905, 0, 0, 0);
+    pile(joiner, b"set 1 without sets:", 512, 901, 0, 0, 0);
 }
 
-pub fn by_sets(by_differences: bool) {
-    groups(by_differences);
-    lowest(by_differences);
-    conflicts(by_differences);
-    marks(by_differences);
+pub fn by_sets(joiner: usize) {
+    groups(joiner);
+    lowest(joiner);
+    conflicts(joiner);
+    marks(joiner);
 }

@@ -165,6 +165,15 @@ pub extern "C" fn titmeadow_join_by_differences(pile: &[u8], secret: &mut [u16])
     said_of(joining::join_by_differences(pile, secret))
 }
 
+// The same by weights that are ready made.
+#[no_mangle]
+pub extern "C" fn titmeadow_join_by_weights(pile: &[u8], secret: &mut [u16]) -> Said
+    ensures says { λ r. ⌜ r ≡ said (joining (now (pile .entry)) (length (now (secret .entry)))) ⌝ }
+    ensures leaves { λ r. ⌜ now (secret .exit) ≡ joinedInto (now (pile .entry)) (now (secret .entry)) ⌝ }
+{
+    said_of(joining::join_by_weights(pile, secret))
+}
+
 // Words 1 to 7 over seven places.
 fn write_head(h: Words, head: &mut [u16])
     requires { ⌜ length (now head) ≡ 7 ⌝ }

@@ -1,4 +1,4 @@
-//! Benchmarks: the proved library against the independent Rust, in one run, both built for release; then its two joiners against each other.
+//! Benchmarks: the proved library against the independent Rust, in one run, both built for release; then its three joiners, and asking at a desk, side by side.
 //! Median of many rounds; the two take turns within a round. Buffers are not cleared between calls.
 mod deals;
 mod desk;

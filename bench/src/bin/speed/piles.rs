@@ -1,8 +1,8 @@
 //! Piles: joining, salvage, adding, and piles of several deals.
 use crate::deals::secret;
-use crate::timing::compare;
+use crate::timing::{compare, side_by_side};
 use bench::inputs;
-use bench::reference::{self, block_words, bytes_of, Deal, Refusal, BLOCK};
+use bench::reference::{self, block_words, bytes_of, Deal, Desk, Refusal, BLOCK};
 use bench::unit;
 use std::hint::black_box;
 
@@ -101,23 +101,36 @@ fn any_pieces(k: usize) -> Vec<u8> {
     (1..=k).flat_map(|j| reference::bytes_of(&reference::block_words([1987, 7, 1, 8, k as u16, 16, j as u16], &values(j), 2026))).collect()
 }
 
-/// The two joiners side by side, for each number of pieces.
+/// The three joiners side by side, for each number of pieces, and asking at a desk that has the same pieces.
 pub fn joiners() {
-    println!("\n| pieces | by differences, µs | by weights, µs | ratio | middle half |");
+    println!("\n| pieces | by the inverse, µs | by differences, µs | by stored weights, µs | asking at the desk, µs |");
     println!("|---|---|---|---|---|");
     for k in 1..=70 {
         let pile = any_pieces(k);
-        let (mut one, mut other) = ([0; 16], [0; 16]);
-        assert_eq!(unit::join_by_differences(&pile, &mut one), unit::join(&pile, &mut other));
-        assert_eq!(one, other);
-        compare(
+        let mut desk = Desk::fresh();
+        assert_eq!(unit::desk_open(&mut desk, 1, [7, 8, k, 16, 2026]), Ok(k));
+        for block in pile.chunks(BLOCK) {
+            unit::desk_hand_in(&mut desk, 1, block).expect("a good block");
+        }
+        let mut words = [[0; 16]; 4];
+        let [one, two, three, asked] = &mut words;
+        side_by_side(
             &k.to_string(),
-            || {
-                black_box(unit::join_by_differences(black_box(&pile), &mut one)).ok();
-            },
-            || {
-                black_box(unit::join(black_box(&pile), &mut other)).ok();
-            },
+            &mut [
+                &mut || {
+                    black_box(unit::join(black_box(&pile), one)).ok();
+                },
+                &mut || {
+                    black_box(unit::join_by_differences(black_box(&pile), two)).ok();
+                },
+                &mut || {
+                    black_box(unit::join_by_weights(black_box(&pile), three)).ok();
+                },
+                &mut || {
+                    black_box(unit::desk_ask(black_box(&mut desk), 1, asked)).ok();
+                },
+            ],
         );
+        assert!(words[0] != [0; 16] && words.iter().all(|same| *same == words[0]), "{k} pieces");
     }
 }

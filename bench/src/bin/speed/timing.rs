@@ -1,4 +1,4 @@
-//! One line of a table: two calls that take turns within a round, many rounds.
+//! One line of a table: calls that take turns within a round, many rounds.
 use std::time::Instant;
 
 const ROUNDS: usize = 41;
@@ -33,4 +33,16 @@ pub fn compare(name: &str, mut ours: impl FnMut(), mut theirs: impl FnMut()) {
     let (low, high) = (ratios[ROUNDS / 4], ratios[ROUNDS * 3 / 4]);
     let (a, b) = (median(a), median(b));
     println!("| {name} | {:.2} | {:.2} | {:.2} | {low:.2} to {high:.2} |", a * 1e6, b * 1e6, a / b);
+}
+
+/// One line of a table of several calls of the library: microseconds of each.
+pub fn side_by_side(name: &str, calls: &mut [&mut dyn FnMut()]) {
+    let mut times = vec![Vec::new(); calls.len()];
+    for _ in 0..ROUNDS {
+        for (call, times) in calls.iter_mut().zip(&mut times) {
+            times.push(once(call));
+        }
+    }
+    let cells: Vec<String> = times.into_iter().map(|times| format!("{:.2}", median(times) * 1e6)).collect();
+    println!("| {name} | {} |", cells.join(" | "));
 }

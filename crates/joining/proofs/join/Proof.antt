@@ -1,19 +1,14 @@
 -- `joining::join` meets its contract: the checks answer and leave the places of the pieces, and past them the secret is written.
 -- Assumes nothing.
-use mathlib.Core.Path.{_≡_, sym, ap, subst, _∙_}
-use Prim.Native.Nat.{_+_, _≤_}
+use mathlib.Core.Path.{_≡_, sym, ap, _∙_}
 use native.Mathlib.Omega.{arith}
 use lib.ListN.{length}
 use borrow.Author.Needs.{needs}
 use Rattle.answer.specs.Outcome.{outcome, done}
-use Rattle.field.specs.Lagrange.{Weights}
-use Rattle.field.proofs.Laws.{weights-are}
-use Rattle.lists.proofs.RunLaws.{run-length}
-use Rattle.joining.specs.Pile.{placeOf}
 use Rattle.joining.specs.Joined.{joining}
 use Rattle.joining.specs.Inner.{Full}
-use Rattle.joining.proofs.ChosenLaws.{own-fits, own-part}
-use Rattle.joining.proofs.WrittenLaws.{full, width-is, width-fits, written, kept}
+use Rattle.joining.proofs.ChosenLaws.{own-part}
+use Rattle.joining.proofs.WrittenLaws.{full, width-is, width-fits, written, kept, taken-few, taken-fits, taken-inside, own-weights}
 use Rattle.joining.proofs.join.Statement.{statement}
 use Rattle.joining.proofs.join.Tie as tie
 
@@ -31,26 +26,22 @@ taken-requires c κs =
     let g = c .before in
     (pile-full g, g .before .before .before .check-join .ensures .1 _ (ap outcome (g .before .w .given .1)))
 
--- the pieces that are taken lie in the table
-inside : (c : tie.After-taken) → c .taken .result .before + c .taken .result .pieces ≤ 560
-inside c = omega (arith, c .taken .ensures .0, c .taken .ensures .1, own-fits (pile-full (c .before .before)))
-
 add-end : tie.Need-add-end
-add-end c = omega (arith, inside c)
+add-end c = omega (arith, taken-fits (pile-full (c .before .before)) (c .taken .ensures))
 
 weights-requires : tie.Need-weights-requires
-weights-requires c κs = omega (arith, c .taken .ensures .1, pile-full (c .before .before) .pieces-in .1)
+weights-requires c κs = taken-few (pile-full (c .before .before)) (c .taken .ensures)
 
 mul-write-secret : tie.Need-mul-write-secret
-mul-write-secret c = omega (arith, inside (c .before))
+mul-write-secret c =
+    let t = c .before in
+    omega (arith, taken-fits (pile-full (t .before .before)) (t .taken .ensures))
 
 part-write-secret-end : tie.Need-part-write-secret-end
 part-write-secret-end c =
     let t = c .before .before in
     let g = t .before .before in
-    let table = g .before .before .before .check-join .ensures .1 _ (ap outcome (g .before .w .given .1)) in
-    let long = ap length table ∙ run-length (placeOf (g .before .before .before .before .before .before .before .args .pile .now)) 1 560 in
-    omega (arith, inside t, long)
+    taken-inside (pile-full g) (t .taken .ensures) _ (g .before .before .before .check-join .ensures .1 _ (ap outcome (g .before .w .given .1)))
 
 write-secret-requires : tie.Need-write-secret-requires
 write-secret-requires c κs =
@@ -62,13 +53,7 @@ write-secret-requires c κs =
       pile-full g,
       (
         own-part (pile-full g) _ _ _ table (t .taken .ensures .0) (t .taken .ensures .1),
-        (
-          width-is _ out _ (gives g),
-          (
-            subst (λ n. Weights n (h .weights .result)) (t .taken .ensures .1) (subst (Weights _) (sym (h .weights .ensures)) (weights-are _)),
-            width-fits _ out _ (gives g),
-          ),
-        ),
+        (width-is _ out _ (gives g), (own-weights (pile-full g) (t .taken .ensures) _ (h .weights .ensures), width-fits _ out _ (gives g))),
       ),
     )
 

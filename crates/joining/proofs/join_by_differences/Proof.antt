@@ -1,17 +1,14 @@
 -- `joining::join_by_differences` meets its contract: the checks answer and leave the places of the pieces, and past them the secret is written.
 -- Assumes nothing.
 use mathlib.Core.Path.{_≡_, sym, ap, _∙_}
-use Prim.Native.Nat.{_+_, _≤_}
 use native.Mathlib.Omega.{arith}
 use lib.ListN.{length}
 use borrow.Author.Needs.{needs}
 use Rattle.answer.specs.Outcome.{outcome, done}
-use Rattle.lists.proofs.RunLaws.{run-length}
-use Rattle.joining.specs.Pile.{placeOf}
 use Rattle.joining.specs.Joined.{joining}
 use Rattle.joining.specs.Inner.{Full}
-use Rattle.joining.proofs.ChosenLaws.{own-fits, own-part}
-use Rattle.joining.proofs.WrittenLaws.{full, width-is, width-fits, written, kept}
+use Rattle.joining.proofs.ChosenLaws.{own-part}
+use Rattle.joining.proofs.WrittenLaws.{full, width-is, width-fits, written, kept, taken-fits, taken-inside}
 use Rattle.joining.proofs.join_by_differences.Statement.{statement}
 use Rattle.joining.proofs.join_by_differences.Tie as tie
 
@@ -29,23 +26,17 @@ taken-requires c κs =
     let g = c .before in
     (pile-full g, g .before .before .before .check-join .ensures .1 _ (ap outcome (g .before .w .given .1)))
 
--- the pieces that are taken lie in the table
-inside : (c : tie.After-taken) → c .taken .result .before + c .taken .result .pieces ≤ 560
-inside c = omega (arith, c .taken .ensures .0, c .taken .ensures .1, own-fits (pile-full (c .before .before)))
-
 add-end : tie.Need-add-end
-add-end c = omega (arith, inside c)
+add-end c = omega (arith, taken-fits (pile-full (c .before .before)) (c .taken .ensures))
 
 mul-write-by-differences : tie.Need-mul-write-by-differences
-mul-write-by-differences c = omega (arith, inside (c))
+mul-write-by-differences c = omega (arith, taken-fits (pile-full (c .before .before)) (c .taken .ensures))
 
 part-write-by-differences-end : tie.Need-part-write-by-differences-end
 part-write-by-differences-end c =
     let t = c .before in
     let g = t .before .before in
-    let table = g .before .before .before .check-join .ensures .1 _ (ap outcome (g .before .w .given .1)) in
-    let long = ap length table ∙ run-length (placeOf (g .before .before .before .before .before .before .before .args .pile .now)) 1 560 in
-    omega (arith, inside t, long)
+    taken-inside (pile-full g) (t .taken .ensures) _ (g .before .before .before .check-join .ensures .1 _ (ap outcome (g .before .w .given .1)))
 
 write-by-differences-requires : tie.Need-write-by-differences-requires
 write-by-differences-requires c κs =

@@ -1,0 +1,2 @@
+pub mod Triangle
+pub mod Laws
