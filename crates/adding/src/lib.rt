@@ -1,5 +1,7 @@
 // Adding two blocks into one under a new deal number and year (SCOPE 4.1): the values one by one mod p, the words 3 to 7 as both have them. Adding the
 // cards of a deal of zeros to those of another deal renews them.
+#![tactic(auto)]
+
 ghost use Rattle.std.specs.Prelude.{◌≡◌, [], ◌∷◌, length, take};
 ghost use Rattle.lists.specs.Over.{over};
 ghost use Rattle.answer.specs.Outcome.{outcome, done};
@@ -16,7 +18,7 @@ use answer::{Answer, Kind};
 use block::Label;
 
 // A deal number and a year, as they are lent.
-#[derive(Drop)]
+#[derive(Clone, Copy)]
 pub struct Pair {
     pub number: usize,
     pub year: usize,

@@ -1,10 +1,12 @@
 // What every call answers: a result, or a refusal with its kind and two places. Contracts speak of it through `outcome`
 // (specs/Outcome.antt), which gives the number and the places of SCOPE 6 for each case.
+#![tactic(auto)]
+
 ghost use Rattle.std.specs.Prelude.{◌≡◌};
 ghost use Rattle.answer.specs.Outcome.{number, outcome, refused};
 
 // The kinds of refusal, in the order of the table in SCOPE 6.2. None has the number 7, which is vacant.
-#[derive(Drop)]
+#[derive(Clone, Copy)]
 pub enum Kind {
     People,
     LongList,
@@ -38,7 +40,7 @@ pub enum Kind {
 }
 
 // A refusal: its kind and its two places, each 0 where SCOPE 6.2 names none.
-#[derive(Drop)]
+#[derive(Clone, Copy)]
 pub struct Refusal {
     pub kind: Kind,
     pub a: usize,
@@ -46,7 +48,7 @@ pub struct Refusal {
 }
 
 // A result and its number (k, blocks, w), or a refusal.
-#[derive(Drop)]
+#[derive(Clone, Copy)]
 pub enum Answer {
     Done(usize),
     Refused(Refusal),

@@ -7,7 +7,7 @@ use crate::word;
 
 // The words that all blocks of a deal share: the scheme's mark, deal number, people, pieces, secret words, year. In a deal by sets each set has
 // its own number of pieces, and they share none: 0.
-#[derive(Drop)]
+#[derive(Clone, Copy)]
 pub struct DealWords {
     pub mark: u16,
     pub number: u16,

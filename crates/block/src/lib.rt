@@ -1,5 +1,7 @@
 // The card block (SCOPE 4): 512 bytes, read as 256 words of two bytes, the high byte in front.
 // The definitions that the contracts cite are in specs/, in SCOPE's terms and order.
+#![tactic(auto)]
+
 mod deal;
 mod reading;
 mod writing;
@@ -13,7 +15,7 @@ pub use reading::{check_block, check_one, check_slots, first_wrong, open, values
 pub use writing::{put_word, write_at, write_block};
 
 // Words 1 to 7 of a block.
-#[derive(Drop)]
+#[derive(Clone, Copy)]
 pub struct Words {
     pub mark: u16,
     pub deal: u16,
@@ -25,7 +27,7 @@ pub struct Words {
 }
 
 // What a block is written from, beside the values of its piece: words 1 to 7, 24 and 25.
-#[derive(Drop)]
+#[derive(Clone, Copy)]
 pub struct Label {
     pub mark: u16,
     pub number: u16,
@@ -39,7 +41,7 @@ pub struct Label {
 }
 
 // What opening a block answers.
-#[derive(Drop)]
+#[derive(Clone, Copy)]
 pub enum Opened {
     Head(Words),
     Refused(Refusal),

@@ -12,7 +12,7 @@ use crate::{Opened, Words, weigh, word};
 use answer::{Answer, Kind, Refusal};
 
 // What one pass over a block finds: the first word above 32748, or 0, and the check of words 1 to 255 where there is none.
-#[derive(Drop)]
+#[derive(Clone, Copy)]
 struct Scanned {
     dirty: usize,
     sum: u16,

@@ -1,5 +1,7 @@
 // Dealing by the required sets (SCOPE 3.2): every minimal one has a deal by itself, with a piece for each of its members.
 // The definitions that the contracts cite are in specs/, in SCOPE's terms and order.
+#![tactic(auto)]
+
 mod card;
 
 ghost use Rattle.std.specs.Prelude.{◌≡◌, ◌≤◌, length};

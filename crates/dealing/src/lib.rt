@@ -1,5 +1,7 @@
 // Dealing: one holder's card (SCOPE 3 and 4; refusals 1 to 12, 22 and 25).
 // The definitions that the contracts cite are in specs/, in SCOPE's terms and order.
+#![tactic(auto)]
+
 mod card;
 mod checks;
 
@@ -16,7 +18,7 @@ use answer::Answer;
 pub use checks::check_inputs;
 
 // Which card is asked for: of which deal, whose, among so many people.
-#[derive(Drop)]
+#[derive(Clone, Copy)]
 pub struct Asked {
     pub people: usize,
     pub number: usize,

@@ -1,5 +1,7 @@
 // A desk with 70 slots for the pieces of two clients (SCOPE 5.2). The work is done by functions on values, which the check covers; the four
 // calls over a lent state are thin, and proved by hand. The definitions that the contracts cite are in specs/.
+#![tactic(auto)]
+
 mod calls;
 mod checks;
 mod slots;
@@ -15,7 +17,7 @@ pub use calls::{asked, closed, forgotten, fresh, handed, opened};
 
 // The five words that a client opens with: words 2, 4, 5, 6 and 24 of its deal's blocks. All 0 where it is not open.
 #[repr(C)]
-#[derive(Drop)]
+#[derive(Clone, Copy)]
 pub struct Opening {
     pub deal: usize,
     pub people: usize,
@@ -26,7 +28,7 @@ pub struct Opening {
 
 // The words of client 1 and of client 2.
 #[repr(C)]
-#[derive(Drop)]
+#[derive(Clone, Copy)]
 pub struct Clients {
     pub one: Opening,
     pub two: Opening,
@@ -34,14 +36,14 @@ pub struct Clients {
 
 // The state: 70 slots of 17 numbers, and the clients' words.
 #[repr(C)]
-#[derive(Drop)]
+#[derive(Clone, Copy)]
 pub struct Desk {
     pub slots: [u16; 1190],
     pub clients: Clients,
 }
 
 // What a call is answered, and the clients' words after it.
-#[derive(Drop)]
+#[derive(Clone, Copy)]
 pub struct Step {
     pub clients: Clients,
     pub answer: Answer,

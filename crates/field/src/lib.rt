@@ -1,5 +1,7 @@
 // Arithmetic mod 32749: the pieces of a word, the modular inverse, and joining one word by Lagrange's formula; by differences in differences.rt.
 // No value above 32748 enters a sum: where one could, a `requires` says so and every caller shows it.
+#![tactic(auto)]
+
 mod differences;
 
 ghost use Rattle.std.specs.Prelude.{◌≡◌, ◌∷◌, ◌+◌, ◌*◌, ◌%◌, ◌<◌, ◌≤◌, length, take};

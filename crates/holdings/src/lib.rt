@@ -1,4 +1,6 @@
 // Judging another maker's holdings (SCOPE 2.1): whether a holding list suits a policy. Planning's refusals, then ROWS.
+#![tactic(auto)]
+
 mod holders;
 
 ghost use Rattle.std.specs.Prelude.{◌≡◌, ◌≤◌};
@@ -11,7 +13,7 @@ ghost use Rattle.holdings.specs.Laws.{InOrder};
 use answer::{Answer, Kind, Refusal};
 
 // The list suits; or the first group for which it does not, authorised with too few pieces, or not authorised with enough; or a refusal.
-#[derive(Drop)]
+#[derive(Clone, Copy)]
 pub enum Judged {
     Suits,
     Few(usize),

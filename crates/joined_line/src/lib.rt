@@ -1,4 +1,6 @@
 // The line that the joining program prints for a pile.
+#![tactic(auto)]
+
 ghost use Rattle.print.specs.Written.{Prints};
 ghost use Rattle.joined_line.specs.Joined.{joined_line};
 

@@ -1,6 +1,8 @@
 // Joining: a pile of card blocks to its secret, by one of three joiners with the same checks and the same promise. The checks are in checks.rt,
 // the deal that a pile is of in heaps.rt, where its pieces lie and which are taken in places.rt, the secret by weights in secret.rt, by differences in
 // differences.rt; the definitions that the contracts cite are in specs/, under the functions' names.
+#![tactic(auto)]
+
 mod checks;
 mod differences;
 mod heaps;

@@ -8,7 +8,7 @@ ghost use Rattle.joining.specs.Inner.{Unmixed, Full, said};
 use crate::heaps::own_deal;
 
 // The pieces that are taken: how many, and how many places of the table lie before theirs.
-#[derive(Drop)]
+#[derive(Clone, Copy)]
 pub struct Part {
     pub before: usize,
     pub pieces: usize,

@@ -1,4 +1,6 @@
 // Keys: dealing one as the secret of its ten words, and joining a pile to one. The definitions that the contracts cite are in specs/.
+#![tactic(auto)]
+
 ghost use Rattle.std.specs.Prelude.{◌≡◌, length};
 ghost use Rattle.answer.specs.Outcome.{outcome};
 ghost use Rattle.planning.specs.Policy.{policy_of};

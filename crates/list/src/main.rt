@@ -1,4 +1,6 @@
 // The listing program (SCOPE 7): a policy text from standard input, to its end or to 16,385 bytes; its listing is printed, or its refusal.
+#![tactic(auto)]
+
 fn main() {
     let mut text = [0u8; 16385];
     let size = io::read_full(0, &mut text);

@@ -1,4 +1,6 @@
 // The listing that the listing program prints (SCOPE 7.2), written into a lent buffer.
+#![tactic(auto)]
+
 ghost use Rattle.std.specs.Prelude.{false, cond, not, [], ◌∷◌, ◌-◌, ◌≤◌, ◌<◌, get_or};
 ghost use Rattle.lists.specs.Places.{those};
 ghost use Rattle.planning.specs.Groups.{marked};

@@ -1,10 +1,12 @@
 // The minimal required sets in rising number (SCOPE 2.3), and the pieces of a set's members.
+#![tactic(auto)]
+
 ghost use Rattle.std.specs.Prelude.{◌≡◌, ◌++◌, ◌-◌, ◌≤◌, replicate};
 ghost use Rattle.planning.specs.Sets.{member};
 ghost use Rattle.minimal.specs.Minimal.{least, minimals, set_count, counted};
 
 // The minimal sets: the first `count` of the array, behind which it has zeros. 70 are enough, since none lies inside another.
-#[derive(Drop)]
+#[derive(Clone, Copy)]
 pub struct Sets {
     pub sets: [u16; 70],
     pub count: usize,

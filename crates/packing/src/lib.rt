@@ -1,5 +1,7 @@
 // A key of sixteen bytes as ten words of 13 bits, and back. Both are one number, the highest digit first (specs/Digits.antt): it is made from the
 // digits of the one and cut into those of the other (number.rt).
+#![tactic(auto)]
+
 mod number;
 
 ghost use Rattle.std.specs.Prelude.{◌≡◌, ◌≤◌, length};
@@ -11,7 +13,7 @@ use answer::{Answer, Kind};
 use number::{number_of_bytes, number_of_words, sixteen_bytes, ten_words};
 
 // What packing answers: the answer, and the ten words, zeros where the key is refused.
-#[derive(Drop)]
+#[derive(Clone, Copy)]
 pub struct Packed {
     pub answer: Answer,
     pub words: [u16; 10],

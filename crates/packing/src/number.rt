@@ -5,7 +5,7 @@ ghost use Rattle.packing.specs.Key.{KeyWords};
 ghost use Rattle.packing.specs.Inner.{half, whole};
 
 // Its upper and its lower 64 bits.
-#[derive(Drop)]
+#[derive(Clone, Copy)]
 pub struct Number {
     pub high: u64,
     pub low: u64,

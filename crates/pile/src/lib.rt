@@ -1,5 +1,7 @@
 // A pile of card blocks: its words, and its blocks in order (SCOPE 5). The definitions that the contracts cite are in specs/, under the
 // functions' names.
+#![tactic(auto)]
+
 ghost use Rattle.std.specs.Prelude.{◌≡◌, ◌≤◌};
 ghost use Rattle.answer.specs.Outcome.{outcome, done};
 ghost use Rattle.answer.specs.Checks.{first_fail};

@@ -1,4 +1,6 @@
 // Planning: from a number of people and two lists of sets to pieces and holdings (SCOPE 2, refusals 1 to 6 and 22).
+#![tactic(auto)]
+
 mod checks;
 mod groups;
 mod sets;

@@ -4,7 +4,7 @@ ghost use Rattle.std.specs.Prelude.{◌≡◌};
 use answer::Answer;
 
 // What planning answers, k or a refusal, with the table of rows: row j marks the people in the group of piece j (SCOPE 6.1).
-#[derive(Drop)]
+#[derive(Clone, Copy)]
 pub struct Plan {
     pub answer: Answer,
     pub rows: [[bool; 8]; 70],

@@ -1,4 +1,6 @@
 // Reading a policy text: line by line, each line for itself (SCOPE 7.1, refusal 21).
+#![tactic(auto)]
+
 ghost use Rattle.std.specs.Prelude.{◌≡◌, List, [], ◌∷◌, ◌++◌, ℕ, ◌+◌, ◌-◌, ◌≤◌, length, drop};
 ghost use Rattle.planning.specs.Sets.{worth as Sets·worth};
 ghost use Rattle.answer.specs.declared.Kind.TheVariants.{Text};
@@ -9,14 +11,14 @@ ghost use Rattle.policy.specs.Inner.{line_length};
 ghost use Rattle.policy.specs.Policy.{begins as Policy·begins};
 
 // A number that was looked for in a line: the first line's digit, or a set.
-#[derive(Drop)]
+#[derive(Clone, Copy)]
 pub enum Found {
     Number(u16),
     Nothing,
 }
 
 // What a line behind the first says: a required set, a forbidden set, or nothing that is a policy's.
-#[derive(Drop)]
+#[derive(Clone, Copy)]
 pub enum Told {
     Need(u16),
     Bar(u16),
@@ -24,14 +26,14 @@ pub enum Told {
 }
 
 // The first 257 sets of a list, with zeros behind them, and how many they are: a list of 257 sets is too long already.
-#[derive(Drop)]
+#[derive(Clone, Copy)]
 pub struct Sets {
     pub sets: [u16; 257],
     pub count: usize,
 }
 
 // What a policy text says: the number of people or TEXT, and the two lists. A refused text has no sets.
-#[derive(Drop)]
+#[derive(Clone, Copy)]
 pub struct PolicyText {
     pub answer: answer::Answer,
     pub required: Sets,

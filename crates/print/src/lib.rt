@@ -1,4 +1,6 @@
 // What the programs print: numbers in decimal, the refusal line, the secret line.
+#![tactic(auto)]
+
 mod decimal; // decimal.rt: a number in decimal
 mod lines; // lines.rt: bytes and numbers one behind the other, and the two lines
 

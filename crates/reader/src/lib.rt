@@ -1,6 +1,8 @@
 // The reader (SCOPE 5), a pile and how far it has come: `new`, `next` and `values`. They take the struct apart and call `seen_at`, `after`
 // and `values_of`, on the pile and a number. `read_at` and `read_all` stand above it, with plain parameters, so that their callers
 // need no proof by hand. The definitions that the contracts cite are in specs/.
+#![tactic(auto)]
+
 ghost use Rattle.std.specs.Prelude.{◌≡◌};
 ghost use Rattle.answer.specs.Outcome.{outcome};
 ghost use Rattle.block.specs.Open.{opened};
@@ -10,7 +12,7 @@ use answer::{Answer, Kind, Refusal};
 use block::{Opened, Words};
 
 // What the reader answers: words 1 to 7 of a block, a refusal, or that the pile is at its end.
-#[derive(Drop)]
+#[derive(Clone, Copy)]
 pub enum Seen {
     Head(Words),
     Refused(Refusal),
@@ -18,14 +20,14 @@ pub enum Seen {
 }
 
 // A pile, and how many of its blocks were passed: 0 at the front, and else the number of the block passed last.
-#[derive(Drop)]
+#[derive(Clone, Copy)]
 pub struct Reader<'a> {
     pub pile: &'a [u8],
     pub block: usize,
 }
 
 // An answer, and how many blocks are passed after it.
-#[derive(Drop)]
+#[derive(Clone, Copy)]
 pub struct Step {
     pub seen: Seen,
     pub block: usize,

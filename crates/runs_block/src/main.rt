@@ -1,6 +1,8 @@
 // P11's block, byte by byte, and what opening says of it: as it is, in a shorter and a longer pile, and with one word changed; and the same of a
 // block of a deal by sets.
 // What it prints is compared with `stdout`.
+#![tactic(auto)]
+
 ghost use Rattle.std.specs.Prelude.{◌≡◌, ◌≤◌, length};
 
 use block::{Label, Opened};

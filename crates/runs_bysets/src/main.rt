@@ -1,5 +1,7 @@
 // Deals by the required sets: P1's policy to every holder, the example of source 003, any four and all of eight people, and inputs that give each
 // refusal; prints what comes out, which is compared with `stdout`.
+#![tactic(auto)]
+
 mod large;
 mod refusals;
 mod show;

@@ -1,5 +1,7 @@
 // Deals P11's deal to every holder, a deal to eight people of whom any five open, and inputs that give each refusal, and prints what comes
 // out, which is compared with `stdout`.
+#![tactic(auto)]
+
 mod eight;
 mod show;
 mod years;

@@ -1,5 +1,7 @@
 // A walk at a desk of two clients, call by call, with what each is answered; then calls that are refused, and a store that holds anything. It is
 // compared with `stdout`. The deal is that of four people, {1,2}, {2,3} or {3,4} required: 3 pieces, the secret 1234, its coefficients 5 and 7.
+#![tactic(auto)]
+
 mod show;
 
 use desk::Clients;

@@ -1,5 +1,7 @@
 // Judges holding lists, good and bad, and prints what comes out: that the list suits, the first group for which it does not and on which
 // side, or the refusal.
+#![tactic(auto)]
+
 mod lists;
 mod show;
 

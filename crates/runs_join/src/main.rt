@@ -1,4 +1,6 @@
 // Joins each pile that an argument names, a file of data/, and prints what the joining program prints for it, under its name.
+#![tactic(auto)]
+
 fn show(k: usize) {
     let mut path = io::buffer();
     let n = os::arg(k, &mut path);

@@ -1,5 +1,7 @@
 // What joining answers where the joining program cannot ask: an output with too little room, and piles past 560 blocks; and of piles of several
 // deals, or of a deal by sets; with the lent words afterwards; by the first joiner, by differences, and by stored weights. Compared with `stdout`.
+#![tactic(auto)]
+
 mod sets;
 
 use answer::{Answer, Refusal};

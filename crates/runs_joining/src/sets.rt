@@ -3,7 +3,7 @@
 use crate::front;
 
 // What a block of the deal holds beside the number, the people and w.
-#[derive(Drop)]
+#[derive(Clone, Copy)]
 struct Held {
     mark: u16,
     holder: u16,

@@ -1,4 +1,6 @@
 // Lists each policy text that an argument names, a file of data/, and prints what the listing program prints for it, under its name.
+#![tactic(auto)]
+
 fn show(k: usize) {
     let mut path = io::buffer();
     let n = os::arg(k, &mut path);

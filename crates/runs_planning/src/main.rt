@@ -1,6 +1,8 @@
 // Plans the larger cases of SCOPE 8.2, the sources' examples and each refusal, and prints what comes out: for an accepted policy the
 // number of pieces, the group of each and how many pieces each person holds; for another its refusal. And any half of the people and one
 // more, which gives as many maximal groups as so many people can have.
+#![tactic(auto)]
+
 mod most;
 
 ghost use Rattle.std.specs.Prelude.{◌≤◌, length};
@@ -114,7 +116,7 @@ fn after(last: usize, c: u8) -> usize
 }
 
 // A list of sets, and how many they are.
-#[derive(Drop)]
+#[derive(Clone, Copy)]
 struct Sets {
     list: [u16; 64],
     count: usize,

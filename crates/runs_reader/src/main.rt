@@ -1,6 +1,8 @@
 // Walks each pile that an argument names, a file of data/, with the reader, and prints under its name a line for each answer, with the
 // values of the block passed last; then what reading the whole pile answers. It asks twice more than the pile has blocks: with no block
 // left the reader stays. What it prints is compared with `stdout`.
+#![tactic(auto)]
+
 use answer::{Answer, Refusal};
 use block::Words;
 use reader::Seen;

@@ -1,5 +1,7 @@
 // Salvages each pile that an argument names, a file of data/, and prints under its name the report of the salvaging program, and what the
 // joining program prints for the pile that it wrote.
+#![tactic(auto)]
+
 fn salvage_and_join(pile: &mut [u8]) {
     let mut report = [0u8; 2444];
     let written = salvaged_text::salvaged_text(pile, &mut report);

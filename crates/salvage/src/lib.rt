@@ -1,5 +1,7 @@
 // Salvage: in a block with one word above 32748, the check gives that word back. One block is in mending.rt; the definitions that the
 // contracts cite are in specs/.
+#![tactic(auto)]
+
 mod mending;
 
 ghost use Rattle.std.specs.Prelude.{◌≡◌, ◌+◌, ◌*◌, ◌≤◌, length};

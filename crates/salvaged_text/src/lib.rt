@@ -1,4 +1,6 @@
 // What the salvaging program writes for a pile: the salvaged pile, and the report of it.
+#![tactic(auto)]
+
 ghost use Rattle.std.specs.Prelude.{◌*◌, ◌≤◌, length};
 ghost use Rattle.print.specs.Written.{Prints};
 ghost use Rattle.print.specs.Inner.{Room, Writes};
@@ -8,7 +10,7 @@ ghost use Rattle.salvaged_text.specs.Salvaged.{place_line, report, salvaged_text
 use answer::{Answer, Kind, Refusal};
 
 // How many bytes of the lent pile are for standard output, and how many of the lent text for standard error.
-#[derive(Drop)]
+#[derive(Clone, Copy)]
 pub struct Report {
     pub bytes: usize,
     pub text: usize,

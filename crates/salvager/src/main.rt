@@ -1,5 +1,7 @@
 // The salvaging program (SCOPE 7.4): a pile from standard input, to its end or to 65,537 bytes; the salvaged pile goes to standard output, the
 // report to standard error. Of a pile that is refused only the refusal is written, to standard error.
+#![tactic(auto)]
+
 fn main() {
     let mut pile = [0u8; 65537];
     let size = io::read_full(0, &mut pile);

@@ -1,4 +1,6 @@
 // The functions for firmware, exported for C (include/titmeadow.h). Each is a thin function over one proved function.
+#![tactic(auto)]
+
 mod desks;
 mod judging;
 mod sets;
@@ -32,7 +34,7 @@ pub use sets::titmeadow_deal_by_sets;
 
 // Number 0: a result, its value in a; else a refusal and its two places.
 #[repr(C)]
-#[derive(Drop)]
+#[derive(Clone, Copy)]
 pub struct Said {
     pub number: usize,
     pub a: usize,

@@ -1,4 +1,6 @@
 // The weights of the pieces ready made, read off a stored triangle: no inverse, no product and no remainder. The numbers stand in table.rt.
+#![tactic(auto)]
+
 mod table;
 
 ghost use Rattle.std.specs.Prelude.{◌≡◌, ◌≤◌};
