@@ -1,0 +1,67 @@
+-- `block::reading::first_wrong` meets its contract. The invariant: the first wrong word is still to be found from word i on; past word 7 it is
+-- the first word past the values that is not 0, the year left aside, or the set's. Assumes nothing.
+use borrow.Author.Rules.{rules}
+use borrow.Author.Tests.{not-false}
+use Rattle.lists.proofs.Truth.{not_so}
+use mathlib.Core.Path.{◌≡◌, refl, sym, ap, ◌∙◌}
+use mathlib.Core.Bool.{not}
+use mathlib.Core.List.{List}
+use Prim.Native.Nat.{ℕ, ◌+◌, ◌-◌, ◌≤◌}
+use native.Mathlib.Omega.{arith}
+use Rattle.lists.specs.Places.{first_in}
+use Rattle.lists.proofs.FirstLaws.{first_hit, first_miss}
+use Rattle.block.specs.Layout.{width_of, right_at, first_wrong}
+use Rattle.block.specs.Inner.{filled}
+use Rattle.block.proofs.LayoutLaws.{width_few, wrong_before, wrong_set, wrong_behind}
+use Rattle.block.proofs.reading.first_wrong.Goals as goal
+
+pub loop-i-init : goal.loop-i-init
+unfolding first_wrong
+loop-i-init c = (search rules, search rules, (λ h. absurd (omega arith)), refl)
+
+pub loop-i-preserved : goal.loop-i-preserved
+loop-i-preserved c =
+    let l = c.loop-i in
+    let b = c.args.b.now in (
+      search rules,
+      search rules,
+      width_few b l.i l.invariant.2 (sym c.right-kept.ensures ∙ c.if-kept.true),
+      l.invariant.3 ∙ first_miss (λ k. not (right_at b k)) l.i 256 (search rules) (ap not (sym c.right-kept.ensures ∙ c.if-kept.true)),
+    )
+
+pub returns-else-kept : goal.returns-else-kept
+returns-else-kept c =
+    let l = c.loop-i in
+    let b = c.args.b.now in
+    sym (l.invariant.3 ∙ first_hit (λ k. not (right_at b k)) l.i 256 (search rules) (ap not (sym c.right-kept.ensures ∙ c.if-kept.false)))
+
+pub returns-then-filled-ne0 : goal.returns-then-filled-ne0
+returns-then-filled-ne0 c = let block : List ℕ = c.args.b.now in
+    let before-year : c.first_filled-filled.result ≡ first_in (filled (block)) (8 + width_of (block)) 24 = c.first_filled-filled.ensures ∙ ap (λ (n : ℕ). first_in (filled (block)) (8 + n) 24) c.word-width.ensures in
+    let from_eight : first_wrong (block) ≡ first_in (λ k. not (right_at (block) k)) 8 256 =
+    let l = c.loop-i in
+    let e : l.i ≡ 8 = omega arith in
+    l.invariant.3 ∙ ap (λ (n : ℕ). first_in (λ k. not (right_at (block) k)) n 256) e in
+    let few : width_of (block) ≤ 16 = c.loop-i.invariant.2 (omega arith) in
+    before-year ∙ sym (from_eight ∙ wrong_before (block) (few) (λ z. c.if-filled-ne0.true (before-year ∙ z)))
+
+pub returns-then-not-right_set : goal.returns-then-not-right_set
+returns-then-not-right_set c = let block : List ℕ = c.args.b.now in
+    let from_eight : first_wrong (block) ≡ first_in (λ k. not (right_at (block) k)) 8 256 =
+    let l = c.loop-i in
+    let e : l.i ≡ 8 = omega arith in
+    l.invariant.3 ∙ ap (λ (n : ℕ). first_in (λ k. not (right_at (block) k)) n 256) e in
+    let few : width_of (block) ≤ 16 = c.loop-i.invariant.2 (omega arith) in
+    let before-year : c.first_filled-filled.result ≡ first_in (filled (block)) (8 + width_of (block)) 24 = c.first_filled-filled.ensures ∙ ap (λ (n : ℕ). first_in (filled (block)) (8 + n) 24) c.word-width.ensures in
+    sym (from_eight ∙ wrong_set (block) (few) (sym (before-year) ∙ c.if-filled-ne0.false) (sym c.right_set.ensures ∙ not_so _ c.if-not-right_set.true))
+
+pub returns : goal.returns
+returns c = let block : List ℕ = c.args.b.now in
+    let from_eight : first_wrong (block) ≡ first_in (λ k. not (right_at (block) k)) 8 256 =
+    let l = c.loop-i in
+    let e : l.i ≡ 8 = omega arith in
+    l.invariant.3 ∙ ap (λ (n : ℕ). first_in (λ k. not (right_at (block) k)) n 256) e in
+    let few : width_of (block) ≤ 16 = c.loop-i.invariant.2 (omega arith) in
+    let before-year : c.first_filled-filled.result ≡ first_in (filled (block)) (8 + width_of (block)) 24 = c.first_filled-filled.ensures ∙ ap (λ (n : ℕ). first_in (filled (block)) (8 + n) 24) c.word-width.ensures in
+    c.first_filled.ensures
+    ∙ sym (from_eight ∙ wrong_behind (block) (few) (sym (before-year) ∙ c.if-filled-ne0.false) (sym c.right_set.ensures ∙ not-false _ c.if-not-right_set.false))

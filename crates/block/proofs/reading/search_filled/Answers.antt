@@ -1,0 +1,34 @@
+-- `block::reading::search_filled` meets its contract. The invariant: the first word that is not 0 is still to be found from word i on. Assumes nothing.
+use mathlib.Core.Path.{refl, sym, ap, ◌∙◌}
+use mathlib.Core.Bool.{not}
+use Prim.Native.Nat.{◌-◌}
+use native.Mathlib.Omega.{arith}
+use borrow.Author.Tests.{eq-eqb, ne_eqb}
+use Rattle.block.specs.Words.{word_at}
+use Rattle.block.specs.Inner.{filled}
+use Rattle.lists.proofs.FirstLaws.{first_hit, first_miss, first-none}
+use Rattle.block.proofs.reading.search_filled.Goals as goal
+
+pub loop-i-init : goal.loop-i-init
+loop-i-init c = (c.requires.0, refl)
+
+pub returns-then-v-ne0 : goal.returns-then-v-ne0
+returns-then-v-ne0 c =
+    let l = c.loop-i in
+    let b = c.args.b.now in
+    sym (l.invariant.1 ∙ first_hit (filled b) l.i c.args.end c.loop-i-test.true
+    (ap not (ne_eqb (word_at b l.i) 0 (λ e. c.if-v-ne0.true (c.word-v.ensures ∙ e)))))
+
+pub loop-i-preserved : goal.loop-i-preserved
+loop-i-preserved c =
+    let l = c.loop-i in
+    let b = c.args.b.now in (
+      omega arith,
+      l.invariant.1 ∙ first_miss (filled b) l.i c.args.end c.loop-i-test.true
+          (ap not (eq-eqb (word_at b l.i) 0 (sym c.word-v.ensures ∙ c.if-v-ne0.false))),
+    )
+
+pub returns : goal.returns
+returns c =
+    let l = c.loop-i in
+    sym (l.invariant.1 ∙ first-none (filled c.args.b.now) l.i c.args.end c.loop-i-test.false)

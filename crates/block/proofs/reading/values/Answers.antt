@@ -1,0 +1,31 @@
+-- `block::reading::values` meets its contract: a block that opens is true, so its value bytes lie within the pile; and where the part points.
+-- Assumes nothing.
+use mathlib.Core.Path.{◌≡◌, sym, ap, ◌∙◌}
+use Prim.Native.Nat.{ℕ, ◌+◌, ◌*◌}
+use native.Mathlib.Nat.{add-sub_cancel_left}
+use native.Mathlib.Omega.{arith}
+use lib.ListN.{take, drop}
+use Rattle.answer.specs.Outcome.{done}
+use Rattle.block.specs.Open.{opening, words_of, opened}
+use Rattle.block.proofs.ValueLaws.{values_head, refused_empty}
+use Rattle.block.proofs.reading.values.Goals as goal
+
+-- a part's pointer, as the borrow checker has it, and as the contract says it
+at_offset : (b o : ℕ) {n m : ℕ} → m ≡ n → ◌≡◌ {A = ℕ × ℕ} (b, n + o) (b, o + m)
+at_offset b o {n} {m} e = let f : n + o ≡ o + m = omega arith in rw f
+
+pub slice_bounds-result-end : goal.slice_bounds-result-end
+slice_bounds-result-end c = let head_at : opening c.args.pile.now ≡ done (words_of c.in-Head.h) = sym c.before.before.«open».ensures ∙ ap opened c.in-Head.is in
+    omega (arith, (values_head _ _ (head_at)).0)
+
+pub returns-in-Head : goal.returns-in-Head
+returns-in-Head c = let head_at : opening c.args.pile.now ≡ done (words_of c.in-Head.h) = sym c.before.before.«open».ensures ∙ ap opened c.in-Head.is in
+    let p = c.args.pile in
+    let r = values_head p.now _ (head_at) in
+    record { content = ap (λ (n : ℕ). take n (drop 14 p.now)) (add-sub_cancel_left 14 (2 * c.in-Head.h.width)) ∙ r.1; place = at_offset p.ref_ptr.0 p.ref_ptr.1 r.2 }
+
+pub returns-in-Refused : goal.returns-in-Refused
+returns-in-Refused c =
+    let p = c.args.pile in
+    let r = refused_empty p.now _ _ _ (sym c.before.before.before.«open».ensures ∙ ap opened c.in-Refused.is) in
+    record { content = sym r.0; place = at_offset p.ptr.0 p.ptr.1 r.1 }
