@@ -16,12 +16,12 @@ use Rattle.lists.proofs.Truth.{never, decided, isn't, alike, both, and_both, or_
 use Rattle.lists.proofs.EachLaws.{each_at, each_of}
 use Rattle.planning.specs.Sets.{worth, member, inside, one_member}
 use Rattle.planning.specs.Inner.{Lacked, Either}
-use Rattle.planning.proofs.SetLaws.{bit, bit_lt, bit_zero, bit_suc, bit_past, bit_and, some_bit, member_bit, bit_member, out_bit, bit_next, nobody_in, member_le, inside-at, inside_of, inside_more}
+use Rattle.planning.proofs.SetLaws.{bit, bit_lt, bit_zero, bit_suc, bit_past, bit_and_lem, some_bit, member_bit, bit_member, out_bit, bit_next, nobody_in, member_le, inside-at, inside_of, inside_more}
 use Rattle.planning.proofs.CountLaws.{one_member_means}
 
 -- ---- digits
-bit_or : (q a b : ℕ) → bit q (bit_or a b) ≡ max (bit q a) (bit q b)
-bit_or q a b = rw (or_shr a b q, or_step (a / 2 ^ q) (b / 2 ^ q)) (omega arith)
+bit_or_lem : (q a b : ℕ) → bit q (bit_or a b) ≡ max (bit q a) (bit q b)
+bit_or_lem q a b = rw (or_shr a b q, or_step (a / 2 ^ q) (b / 2 ^ q)) (omega arith)
 
 -- taken from k digits 1, each digit is the other one
 bit_not : (k q g : ℕ) → q < k → g < 2 ^ k → bit q (2 ^ k - 1 - g) + bit q g ≡ 1
@@ -70,15 +70,15 @@ lacking-is r g small h = record { small = omega (arith, and_le_l r (65535 - g));
   where
     there : (i : ℕ) → 1 ≤ i → i ≤ 16 → member i (bit_and r (65535 - g)) ≡ true → (member i r && not (member i g)) ≡ true
     there i l k t =
-        let one : bit (i - 1) r ≡ 1 = omega (arith, member_bit i _ t, bit_and (i - 1) r (65535 - g), bit_lt (i - 1) r) in
-        let none : bit (i - 1) g ≡ 0 = omega (arith, member_bit i _ t, bit_and (i - 1) r (65535 - g), bit_not 16 (i - 1) g (omega arith) h) in
+        let one : bit (i - 1) r ≡ 1 = omega (arith, member_bit i _ t, bit_and_lem (i - 1) r (65535 - g), bit_lt (i - 1) r) in
+        let none : bit (i - 1) g ≡ 0 = omega (arith, member_bit i _ t, bit_and_lem (i - 1) r (65535 - g), bit_not 16 (i - 1) g (omega arith) h) in
         and_both (bit_member i r one) (so_not (isn't (λ (u : member i g ≡ true). let z : ⊥ = omega (arith, member_bit i g u) in z)))
 
     back-there : (i : ℕ) → 1 ≤ i → i ≤ 16 → (member i r && not (member i g)) ≡ true → member i (bit_and r (65535 - g)) ≡ true
     back-there i l k t =
         let w = both (member i r) (not (member i g)) t in
         bit_member i _
-        (omega (arith, bit_and (i - 1) r (65535 - g), bit_not 16 (i - 1) g (omega arith) h, member_bit i r w.0, out_bit i g (not_so (member i g) w.1)))
+        (omega (arith, bit_and_lem (i - 1) r (65535 - g), bit_not 16 (i - 1) g (omega arith) h, member_bit i r w.0, out_bit i g (not_so (member i g) w.1)))
 
 pub either_is : (a b : ℕ) → Either a b (bit_or a b)
 either_is a b = record { has = λ i l k. alike (there i) (back-there i) }
@@ -87,13 +87,13 @@ either_is a b = record { has = λ i l k. alike (there i) (back-there i) }
     there i t =
         ⊎_elim (λ (u : member i a ≡ true). or_l (member i b) u)
         (λ (e : member i a ≡ false).
-        or_r (member i a) (bit_member i b (omega (arith, member_bit i _ t, bit_or (i - 1) a b, out_bit i a e))))
+        or_r (member i a) (bit_member i b (omega (arith, member_bit i _ t, bit_or_lem (i - 1) a b, out_bit i a e))))
         (decided (member i a))
 
     back-there : (i : ℕ) → (member i a || member i b) ≡ true → member i (bit_or a b) ≡ true
     back-there i t =
-        ⊎_elim (λ (u : member i a ≡ true). bit_member i _ (omega (arith, bit_or (i - 1) a b, member_bit i a u, bit_lt (i - 1) b)))
-        (λ (u : member i b ≡ true). bit_member i _ (omega (arith, bit_or (i - 1) a b, member_bit i b u, bit_lt (i - 1) a)))
+        ⊎_elim (λ (u : member i a ≡ true). bit_member i _ (omega (arith, bit_or_lem (i - 1) a b, member_bit i a u, bit_lt (i - 1) b)))
+        (λ (u : member i b ≡ true). bit_member i _ (omega (arith, bit_or_lem (i - 1) a b, member_bit i b u, bit_lt (i - 1) a)))
         (or_cases (member i a) (member i b) t)
 
 -- the set of all n people has each of them, and nobody else

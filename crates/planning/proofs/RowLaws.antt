@@ -121,12 +121,3 @@ row_past l i j h = past l (70 - length l) (j - 1) (i - 1) (omega arith)
 pub no_marks : (i j : ℕ) → marked (rows_of []) j i ≡ false
 unfolding rows_of
 no_marks i j = past [] 70 (j - 1) (i - 1) zero-le
-
--- ---- a field of rows is read by its laws as the rows mapped by the identity, twice: that is the rows
-row_id : (l : List Bool) → map (λ v. v) l ≡ l
-row_id [] = refl
-row_id (b ∷ l) = ap (λ (k : List Bool). b ∷ k) (row_id l)
-
-pub rows_id : (l : List (List Bool)) → map (λ r. map (λ v. v) r) l ≡ l
-rows_id [] = refl
-rows_id (r ∷ l) = ap (λ (s : List Bool). s ∷ map (λ r. map (λ v. v) r) l) (row_id r) ∙ ap (λ (k : List (List Bool)). r ∷ k) (rows_id l)

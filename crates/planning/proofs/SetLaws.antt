@@ -127,11 +127,11 @@ pub person_lt : (n i g : ℕ) → g < 2 ^ n → 1 ≤ i → i ≤ n → member i
 person_lt n i g h l k e = more_lt n (i - 1) g h (omega arith) (out_bit i g e)
 
 -- ---- `&`
-pub bit_and : (q a b : ℕ) → bit q (bit_and a b) ≡ min (bit q a) (bit q b)
-bit_and q a b = rw (and_shr a b q, and_step (a / 2 ^ q) (b / 2 ^ q)) (omega arith)
+pub bit_and_lem : (q a b : ℕ) → bit q (bit_and a b) ≡ min (bit q a) (bit q b)
+bit_and_lem q a b = rw (and_shr a b q, and_step (a / 2 ^ q) (b / 2 ^ q)) (omega arith)
 
 and_inside : (a b : ℕ) → bit_and a b ≡ a → (q : ℕ) → bit q a ≤ bit q b
-and_inside a b e q = omega (arith, ap (bit q) (sym e) ∙ bit_and q a b)
+and_inside a b e q = omega (arith, ap (bit q) (sym e) ∙ bit_and_lem q a b)
 
 inside_and : (k a b : ℕ) → a < 2 ^ k → ((q : ℕ) → q < k → bit q a ≤ bit q b) → bit_and a b ≡ a
 inside_and zero a b h f = let z : a ≡ 0 = omega arith in rw z
@@ -192,11 +192,11 @@ stranger-means n s small = (
 pub common_at : (a b : ℕ) → (bit_and a b ≡ 0 → ⊥) → (i : ℕ) × (1 ≤ i) × (member i a ≡ true) × (member i b ≡ true)
 common_at a b n =
     let r = some_bit (bit_and a b) (bit_and a b) (omega arith) (lt_pow (bit_and a b)) in
-    let e : min (bit r.0 a) (bit r.0 b) ≡ 1 = sym (bit_and r.0 a b) ∙ r.1 in
+    let e : min (bit r.0 a) (bit r.0 b) ≡ 1 = sym (bit_and_lem r.0 a b) ∙ r.1 in
     (suc r.0, omega arith, bit_next r.0 a (λ z. omega arith), bit_next r.0 b (λ z. omega arith))
 
 pub common_of : (a b i : ℕ) → member i a ≡ true → member i b ≡ true → bit_and a b ≡ 0 → ⊥
-common_of a b i s t z = omega (arith, bit_and (i - 1) a b, ap (bit (i - 1)) z, bit_past 0 (i - 1) 0 (lit< tt) zero-le, member_bit i a s, member_bit i b t)
+common_of a b i s t z = omega (arith, bit_and_lem (i - 1) a b, ap (bit (i - 1)) z, bit_past 0 (i - 1) 0 (lit< tt) zero-le, member_bit i a s, member_bit i b t)
 
 -- ---- the empty set has no set inside it but itself
 pub inside_empty : (s : ℕ) → 1 ≤ s → s < 2 ^ 16 → inside s 0 ≡ true → ⊥

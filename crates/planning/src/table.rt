@@ -1,4 +1,4 @@
-// A plan: planning's answer and its table. The table, an array of arrays, is made and read by thin functions, proved by hand.
+// A plan: planning's answer and its table. The table, an array of arrays, is made and read by thin functions.
 ghost use Rattle.std.specs.Prelude.{◌≡◌};
 
 use answer::Answer;

@@ -11,4 +11,4 @@ plan_into-answer-requires c = empty_rows
 pub returns : goal.returns
 returns c =
     let i = c.plan_into-answer in
-    record { says = ap outcome c.plan_of.ensures.0 ∙ i.ensures.0; table = c.plan_of.ensures.1 ∙ i.ensures.1 }
+    record { says = ap outcome c.plan_of.ensures.0 ∙ i.ensures.says; table = c.plan_of.ensures.1 ∙ i.ensures.table }

@@ -1,8 +1,6 @@
 -- `planning::checks::first_around` meets its contract: the set lies inside none of the sets passed.
 -- Assumes nothing.
 use mathlib.Core.Path.{sym, ◌∙◌}
-use Prim.Native.Nat.{◌-◌}
-use Rattle.planning.specs.Sets.{inside}
 use native.Mathlib.Omega.{arith}
 use Rattle.lists.proofs.AheadLaws.{start, here, next, end}
 use Rattle.planning.proofs.checks.first_around.Goals as goal

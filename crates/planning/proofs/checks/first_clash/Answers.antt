@@ -1,6 +1,5 @@
 -- `planning::checks::first_clash` meets its contract: the sets passed lie inside no forbidden set.
 -- Assumes nothing.
-use Prim.Native.Nat.{◌-◌}
 use Rattle.planning.specs.Planned.{clash_place}
 use Rattle.lists.proofs.SomeLaws.{found_at, found_none}
 use native.Mathlib.Omega.{arith}

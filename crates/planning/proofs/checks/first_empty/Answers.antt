@@ -1,6 +1,5 @@
 -- `planning::checks::first_empty` meets its contract: the sets passed are not empty.
 -- Assumes nothing.
-use Prim.Native.Nat.{◌-◌}
 use borrow.Author.Tests.{eq-eqb, ne_eqb}
 use native.Mathlib.Omega.{arith}
 use Rattle.lists.proofs.AheadLaws.{start, here, next, end}

@@ -1,8 +1,6 @@
 -- `planning::checks::first_lone` meets its contract: none of the sets passed has exactly one member.
 -- Assumes nothing.
 use mathlib.Core.Path.{sym, ◌∙◌}
-use Prim.Native.Nat.{◌-◌}
-use Rattle.planning.specs.Sets.{one_member}
 use native.Mathlib.Omega.{arith}
 use Rattle.lists.proofs.AheadLaws.{start, here, next, end}
 use Rattle.planning.proofs.checks.first_lone.Goals as goal

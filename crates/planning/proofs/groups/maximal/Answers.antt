@@ -1,7 +1,7 @@
 -- `planning::groups::maximal` meets its contract: the sets still ahead say, with what was found, the same as the whole required list.
 -- Assumes nothing.
 use mathlib.Core.Path.{ap, ◌∙◌}
-use Prim.Native.Nat.{ℕ, ◌-◌, ◌≤◌}
+use Prim.Native.Nat.{ℕ, ◌≤◌}
 use native.Mathlib.Omega.{arith}
 use Rattle.planning.specs.Sets.{inside}
 use Rattle.planning.proofs.GroupLaws.{walk_start, walk_next, walk_inside, walk_end}

@@ -1,9 +1,7 @@
 -- `planning::authorised` meets its contract: some set of those still ahead lies inside the group exactly where some required set does.
 -- Assumes nothing.
 use mathlib.Core.Path.{sym, ◌∙◌}
-use Prim.Native.Nat.{◌-◌}
 use native.Mathlib.Omega.{arith}
-use Rattle.planning.specs.Sets.{inside}
 use Rattle.planning.specs.Groups.{authorised}
 use Rattle.planning.proofs.LoopLaws.{some-start, some_here, some_next, some_end}
 use Rattle.planning.proofs.sets.authorised.Goals as goal
