@@ -7,7 +7,7 @@ use Rattle.reader.proofs.seen_at.Goals as goal
 
 pub returns-then-passed-whole : goal.returns-then-passed-whole
 unfolding blocks
-returns-then-passed-whole c = c.count_in.ensures ∙ seen-block _ _ c.if-passed-whole.true c.before.«open».ensures
+returns-then-passed-whole c = c.count_in.ensures ∙ seen-block _ _ c.if-passed-whole.true c.before.open-o.ensures
 
 pub returns-then-whole-passed : goal.returns-then-whole-passed
 returns-then-whole-passed c = sym (seeing-ended _ _ (omega (arith, c.if-whole-passed.true)))

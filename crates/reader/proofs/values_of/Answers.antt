@@ -21,14 +21,14 @@ pub returns-then-a-eq0 : goal.returns-then-a-eq0
 returns-then-a-eq0 c =
     let p = c.args.pile in
     let r = values-none p.now _ (no_block p.now _ c.if-a-eq0.true) in
-    (sym r.0, at_offset p.ptr.0 p.ptr.1 r.1)
+    (sym r.0, at_offset p.ref_ptr.0 p.ref_ptr.1 r.1)
 
 pub returns-then-pile-a : goal.returns-then-pile-a
 unfolding blocks
 returns-then-pile-a c =
     let p = c.args.pile in
     let r = values-none p.now _ (past_blocks p.now _ c.if-pile-a.true) in
-    (sym r.0, at_offset p.ptr.0 p.ptr.1 r.1)
+    (sym r.0, at_offset p.ref_ptr.0 p.ref_ptr.1 r.1)
 
 pub returns : goal.returns
 unfolding blocks rest_from
@@ -38,5 +38,5 @@ returns c =
     let e = part_rest p.now (512 * (a - 1)) in
     let r = values_in p.now a (omega (arith, c.if-a-eq0.false)) c.if-pile-a.false in (
       c.values.ensures.content ∙ ap value_bytes e ∙ sym r.0,
-      c.values.ensures.place ∙ within p.ptr.0 p.ptr.1 (512 * (a - 1)) _ (r.1 ∙ ap (λ x. 512 * (a - 1) + value_start x) (sym e)),
+      c.values.ensures.place ∙ within p.ref_ptr.0 p.ref_ptr.1 (512 * (a - 1)) _ (r.1 ∙ ap (λ x. 512 * (a - 1) + value_start x) (sym e)),
     )
