@@ -1,4 +1,3 @@
-pub mod Local
 pub mod SeeingLaws
 pub mod ReadingLaws
 pub mod Laws

@@ -56,7 +56,7 @@ values_from pile a = cond (has_block pile a) (512 * (a - 1) + value_start (rest_
 abbrev pub ValuesIn : Bor (List ℕ) → ℕ → Bor (List ℕ) → Type 0
 ValuesIn pile a part =
     (part.now ≡ values_of pile.now a)
-    × ◌≡◌ {A = ℕ × ℕ} part.ptr (pile.ref_ptr.0, pile.ref_ptr.1 + values_from pile.now a)
+    × ◌≡◌ {A = ℕ × ℕ} part.ref_ptr (pile.ref_ptr.0, pile.ref_ptr.1 + values_from pile.now a)
 
 -- the reader after a step: the same pile, and the place after
 abbrev pub stepped : Reader → Reader

@@ -1,5 +1,4 @@
 -- `block::reading::byte_sum` meets its contract: the sum so far is 0 only where the bytes passed are all 0. Assumes nothing.
-use Prim.Native.Nat.{◌-◌}
 use native.Mathlib.Omega.{arith}
 use Rattle.block.proofs.ZeroLaws.{sum-start, sum_on, sum_end}
 use Rattle.block.proofs.reading.byte_sum.Goals as goal

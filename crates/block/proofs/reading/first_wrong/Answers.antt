@@ -1,12 +1,10 @@
 -- `block::reading::first_wrong` meets its contract. The invariant: the first wrong word is still to be found from word i on; past word 7 it is
 -- the first word past the values that is not 0, the year left aside, or the set's. Assumes nothing.
 use borrow.Author.Rules.{rules}
-use borrow.Author.Tests.{not-false}
-use Rattle.lists.proofs.Truth.{not_so}
 use mathlib.Core.Path.{◌≡◌, refl, sym, ap, ◌∙◌}
 use mathlib.Core.Bool.{not}
 use mathlib.Core.List.{List}
-use Prim.Native.Nat.{ℕ, ◌+◌, ◌-◌, ◌≤◌}
+use Prim.Native.Nat.{ℕ, ◌+◌, ◌≤◌}
 use native.Mathlib.Omega.{arith}
 use Rattle.lists.specs.Places.{first_in}
 use Rattle.lists.proofs.FirstLaws.{first_hit, first_miss}
@@ -53,7 +51,7 @@ returns-then-not-right_set c = let block : List ℕ = c.args.b.now in
     l.invariant.3 ∙ ap (λ (n : ℕ). first_in (λ k. not (right_at (block) k)) n 256) e in
     let few : width_of (block) ≤ 16 = c.loop-i.invariant.2 (omega arith) in
     let before-year : c.first_filled-filled.result ≡ first_in (filled (block)) (8 + width_of (block)) 24 = c.first_filled-filled.ensures ∙ ap (λ (n : ℕ). first_in (filled (block)) (8 + n) 24) c.word-width.ensures in
-    sym (from_eight ∙ wrong_set (block) (few) (sym (before-year) ∙ c.if-filled-ne0.false) (sym c.right_set.ensures ∙ not_so _ c.if-not-right_set.true))
+    sym (from_eight ∙ wrong_set (block) (few) (sym (before-year) ∙ c.if-filled-ne0.false) (sym c.right_set.ensures ∙ c.if-not-right_set.true))
 
 pub returns : goal.returns
 returns c = let block : List ℕ = c.args.b.now in
@@ -64,4 +62,4 @@ returns c = let block : List ℕ = c.args.b.now in
     let few : width_of (block) ≤ 16 = c.loop-i.invariant.2 (omega arith) in
     let before-year : c.first_filled-filled.result ≡ first_in (filled (block)) (8 + width_of (block)) 24 = c.first_filled-filled.ensures ∙ ap (λ (n : ℕ). first_in (filled (block)) (8 + n) 24) c.word-width.ensures in
     c.first_filled.ensures
-    ∙ sym (from_eight ∙ wrong_behind (block) (few) (sym (before-year) ∙ c.if-filled-ne0.false) (sym c.right_set.ensures ∙ not-false _ c.if-not-right_set.false))
+    ∙ sym (from_eight ∙ wrong_behind (block) (few) (sym (before-year) ∙ c.if-filled-ne0.false) (sym c.right_set.ensures ∙ c.if-not-right_set.false))

@@ -3,7 +3,6 @@ use Prim.Native.Nat.{ℕ, ◌≤◌}
 use mathlib.Core.List.{List}
 use mathlib.Core.Path.{◌≡◌, sym, ap, ◌∙◌}
 use mathlib.Core.Bool.{true, false, cond}
-use mathlib.Core.Logic.{⊎_elim}
 use native.Mathlib.Omega.{arith}
 use Rattle.block.specs.Words.{word_at}
 use Rattle.block.specs.Deals.{marks_sets}
@@ -11,6 +10,7 @@ use Rattle.block.specs.Layout.{within, range_at, label_of, right_at}
 use Rattle.block.proofs.LayoutLaws.{right-own}
 use borrow.Author.Tests.{eq-eqb, ne_eqb}
 use Rattle.block.proofs.reading.right.Goals as goal
+use Rattle.block.proofs.reading.right.Goals.{then-mark-eq1988, else-mark-eq1988}
 
 pub returns-then-v-eq1987 : goal.returns-then-v-eq1987
 unfolding range_at
@@ -65,10 +65,10 @@ returns-else-within c = let word_four : c.word-v.result ≡ word_at c.args.b.now
 pub returns-after-mark-eq1988 : goal.returns-after-mark-eq1988
 unfolding range_at
 returns-after-mark-eq1988 c = let most : let b = c.args.b.now in c.if-mark-eq1988.most ≡ cond (marks_sets (word_at b 1)) (word_at b 4) 70 =
-    ⊎_elim
-    (λ t. rw (eq-eqb _ 1988 (sym c.word-mark.ensures ∙ t.0.taken)) (t.1 ∙ c.word-people.ensures))
-    (λ t. rw (ne_eqb _ 1988 (λ e. t.0.left (c.word-mark.ensures ∙ e))) t.1)
-    c.if-mark-eq1988.branch in
+    elim c.if-mark-eq1988.branch [
+      | then-mark-eq1988 w ↦ rw (eq-eqb _ 1988 (sym c.word-mark.ensures ∙ w.if-mark-eq1988.true)) (w.most-is ∙ c.word-people.ensures)
+      | else-mark-eq1988 w ↦ rw (ne_eqb _ 1988 (λ e. w.if-mark-eq1988.false (c.word-mark.ensures ∙ e))) w.most-is
+    ] in
     let block : List ℕ = c.args.b.now in
     let own : (i : ℕ) → 1 ≤ i → i ≤ 7 → right_at (block) i ≡ range_at (label_of (block)) i = λ i l h. right-own (block) i l h in
     simp (c.within-in-5.ensures, c.word-v.ensures, most, c.in-5.is, own 5 (omega arith) (omega arith))

@@ -1,7 +1,6 @@
 -- `block::reading::scan` meets its contract: the first word above 32748 is still to be found from word i on, and the words before it are in the sum.
 -- Assumes nothing.
 use mathlib.Core.Path.{◌≡◌, sym, ap, ◌∙◌}
-use Prim.Native.Nat.{◌-◌}
 use native.Mathlib.Omega.{arith}
 use Rattle.block.specs.Words.{word_at}
 use Rattle.block.proofs.ScanLaws.{scan_start, scan_found, scan_on, scan_end}

@@ -1,7 +1,6 @@
 -- `block::reading::search_filled` meets its contract. The invariant: the first word that is not 0 is still to be found from word i on. Assumes nothing.
 use mathlib.Core.Path.{refl, sym, ap, ◌∙◌}
 use mathlib.Core.Bool.{not}
-use Prim.Native.Nat.{◌-◌}
 use native.Mathlib.Omega.{arith}
 use borrow.Author.Tests.{eq-eqb, ne_eqb}
 use Rattle.block.specs.Words.{word_at}

@@ -15,11 +15,11 @@ at_offset : (b o : ℕ) {n m : ℕ} → m ≡ n → ◌≡◌ {A = ℕ × ℕ} (
 at_offset b o {n} {m} e = let f : n + o ≡ o + m = omega arith in rw f
 
 pub slice_bounds-result-end : goal.slice_bounds-result-end
-slice_bounds-result-end c = let head_at : opening c.args.pile.now ≡ done (words_of c.in-Head.h) = sym c.before.before.«open».ensures ∙ ap opened c.in-Head.is in
+slice_bounds-result-end c = let head_at : opening c.args.pile.now ≡ done (words_of c.in-Head.h) = sym c.open.ensures ∙ ap opened c.in-Head.is in
     omega (arith, (values_head _ _ (head_at)).0)
 
 pub returns-in-Head : goal.returns-in-Head
-returns-in-Head c = let head_at : opening c.args.pile.now ≡ done (words_of c.in-Head.h) = sym c.before.before.«open».ensures ∙ ap opened c.in-Head.is in
+returns-in-Head c = let head_at : opening c.args.pile.now ≡ done (words_of c.in-Head.h) = sym c.open.ensures ∙ ap opened c.in-Head.is in
     let p = c.args.pile in
     let r = values_head p.now _ (head_at) in
     record { content = ap (λ (n : ℕ). take n (drop 14 p.now)) (add-sub_cancel_left 14 (2 * c.in-Head.h.width)) ∙ r.1; place = at_offset p.ref_ptr.0 p.ref_ptr.1 r.2 }
@@ -27,5 +27,5 @@ returns-in-Head c = let head_at : opening c.args.pile.now ≡ done (words_of c.i
 pub returns-in-Refused : goal.returns-in-Refused
 returns-in-Refused c =
     let p = c.args.pile in
-    let r = refused_empty p.now _ _ _ (sym c.before.before.before.«open».ensures ∙ ap opened c.in-Refused.is) in
-    record { content = sym r.0; place = at_offset p.ptr.0 p.ptr.1 r.1 }
+    let r = refused_empty p.now _ _ _ (sym c.open.ensures ∙ ap opened c.in-Refused.is) in
+    record { content = sym r.0; place = at_offset p.ref_ptr.0 p.ref_ptr.1 r.1 }

@@ -1,27 +1,10 @@
 -- `block::writing::body_word` meets its contract, arm by arm. Assumes nothing.
-use Prim.Native.Nat.{◌≤◌}
 use lib.ListN.{get_or-eq_default}
 use Rattle.block.proofs.LayoutLaws.{held_rest}
-use Rattle.block.proofs.BodyLaws.{past_seven}
+use native.Mathlib.Omega.{arith}
 use mathlib.Core.Path.{sym, ◌∙◌}
 use Rattle.block.specs.Layout.{held_at}
 use Rattle.block.proofs.writing.body_word.Goals as goal
-
-pub overflow_sub-at : goal.overflow_sub-at
-overflow_sub-at c = let eight : 8 ≤ c.args.i =
-    let a = c.args in
-    let r = c.in-1.rest in
-    past_seven
-    a.i
-    c.requires.0
-    r.0.0.0.0.0.0.0.0.1
-    r.0.0.0.0.0.0.0.1
-    r.0.0.0.0.0.0.1
-    r.0.0.0.0.0.1
-    r.0.0.0.0.1
-    r.0.0.0.1
-    r.0.0.1 in
-    eight
 
 pub returns-in-1 : goal.returns-in-1
 unfolding held_at
@@ -60,35 +43,8 @@ unfolding held_at
 returns-in-25 c = rw c.in-25.is
 
 pub returns-then-at-values : goal.returns-then-at-values
-returns-then-at-values c = let eight : 8 ≤ c.args.i =
-    let a = c.args in
-    let r = c.in-1.rest in
-    past_seven
-    a.i
-    c.requires.0
-    r.0.0.0.0.0.0.0.0.1
-    r.0.0.0.0.0.0.0.1
-    r.0.0.0.0.0.0.1
-    r.0.0.0.0.0.1
-    r.0.0.0.0.1
-    r.0.0.0.1
-    r.0.0.1 in
-    let a = c.args in
-    sym (held_rest a.l a.values.now a.i (eight) c.in-1.rest.0.1 c.in-1.rest.1)
+returns-then-at-values c = sym (held_rest c.args.l c.args.values.now c.args.i (omega arith) (λ e. omega arith) (λ e. omega arith))
 
 pub returns-else-at-values : goal.returns-else-at-values
-returns-else-at-values c = let eight : 8 ≤ c.args.i =
-    let a = c.args in
-    let r = c.in-1.rest in
-    past_seven
-    a.i
-    c.requires.0
-    r.0.0.0.0.0.0.0.0.1
-    r.0.0.0.0.0.0.0.1
-    r.0.0.0.0.0.0.1
-    r.0.0.0.0.0.1
-    r.0.0.0.0.1
-    r.0.0.0.1
-    r.0.0.1 in
-    let a = c.args in
-    sym (held_rest a.l a.values.now a.i (eight) c.in-1.rest.0.1 c.in-1.rest.1 ∙ get_or-eq_default a.values.now 0 c.if-at-values.false)
+returns-else-at-values c =
+    sym (held_rest c.args.l c.args.values.now c.args.i (omega arith) (λ e. omega arith) (λ e. omega arith) ∙ get_or-eq_default c.args.values.now 0 c.if-at-values.false)

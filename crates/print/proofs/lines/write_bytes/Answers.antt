@@ -2,7 +2,6 @@
 -- Assumes nothing.
 use mathlib.Core.Path.{◌≡◌, refl, sym}
 use native.Mathlib.Omega.{arith}
-use Prim.Native.Nat.{◌-◌}
 use lib.ListN.{take, length-set}
 use lib.Seq.{take_all}
 use Rattle.print.proofs.WrittenLaws.{written_none, copied}

@@ -2,7 +2,6 @@
 -- Assumes nothing.
 use mathlib.Core.Path.{refl, ap, ◌∙◌}
 use native.Mathlib.Omega.{arith}
-use Prim.Native.Nat.{◌-◌}
 use lib.Seq.{take_all}
 use Rattle.print.specs.Lines.{spaced_all}
 use Rattle.print.proofs.WrittenLaws.{nothing, retold}

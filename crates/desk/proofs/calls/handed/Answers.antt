@@ -1,0 +1,75 @@
+-- `desk::calls::handed` meets its contract: the checks speak, and a result keeps the piece.
+-- Assumes nothing.
+use native.Mathlib.Omega.{arith}
+use mathlib.Core.Path.{sym, ap, ◌∙◌}
+use mathlib.Core.List.{List}
+use Prim.Native.Nat.{ℕ}
+use native.Mathlib.Nat.{le_of_eq}
+use Rattle.answer.specs.Outcome.{done}
+use Rattle.desk.specs.declared.Opening.{Opening}
+use Rattle.desk.specs.Opens.{words_in}
+use Rattle.desk.specs.Slots.{start, over_at, kept, distinct}
+use Rattle.desk.specs.Lines.{hand_slots, hand_says}
+use Rattle.desk.proofs.WordLaws.{ranged}
+use Rattle.desk.proofs.SaysLaws.{Front, front-piece, hand_passed}
+use Rattle.desk.proofs.ChainLaws.{hand_stops, hand_goes}
+use Rattle.desk.proofs.NextLaws.{by_done, by_refused}
+use Rattle.desk.proofs.calls.handed.Goals as goal
+
+pub returns-in-Refused : goal.returns-in-Refused
+returns-in-Refused c =
+    let g = c.args in
+    let o = words_in g.both g.client in
+    let says = hand_stops g.slots.now c.words_of-o.result g.client g.block.now c.check_hand.ensures c.in-Refused.is
+    ∙ ap (λ (x : Opening). hand_says g.slots.now x g.client g.block.now) c.words_of-o.ensures in
+    (says, sym (by_refused (hand_says g.slots.now o g.client g.block.now) (hand_slots g.slots.now o g.client g.block.now) g.slots.now _ _ _ (sym says)))
+
+pub word-requires : goal.word-requires
+word-requires c = let front : Front c.words_of-o.result c.args.client c.args.block.now =
+    let g = c.args in
+    (hand_passed g.slots.now c.words_of-o.result g.client g.block.now _
+    (hand_goes g.slots.now c.words_of-o.result g.client g.block.now c.check_hand.ensures c.in_default.is)).front in
+    (omega arith, omega (arith, (front).long))
+
+pub start-at-requires : goal.start-at-requires
+start-at-requires c = let front : Front c.words_of-o.result c.args.client c.args.block.now =
+    let g = c.args in
+    (hand_passed g.slots.now c.words_of-o.result g.client g.block.now _
+    (hand_goes g.slots.now c.words_of-o.result g.client g.block.now c.check_hand.ensures c.in_default.is)).front in
+    let f = front in
+    let g = c.args in
+    let o = c.words_of-o.result in
+    let r = front-piece o g.client g.block.now f in
+    (omega (arith, c.word.ensures, r.0), omega (arith, c.word.ensures, r.1, (ranged o f.opened).pieces.1))
+
+pub put_piece-requires : goal.put_piece-requires
+put_piece-requires c = let front : Front c.words_of-o.result c.args.client c.args.block.now =
+    let g = c.args in
+    (hand_passed g.slots.now c.words_of-o.result g.client g.block.now _
+    (hand_goes g.slots.now c.words_of-o.result g.client g.block.now c.check_hand.ensures c.in_default.is)).front in
+    let f = front in
+    record { at_in_bounds = (omega (arith, c.start-at.ensures.1), (ranged c.words_of-o.result f.opened).width.1); in_bounds = le_of_eq (sym f.long) }
+
+pub distinct-n-requires : goal.distinct-n-requires
+distinct-n-requires c = let front : Front c.words_of-o.result c.args.client c.args.block.now =
+    let g = c.args in
+    (hand_passed g.slots.now c.words_of-o.result g.client g.block.now _
+    (hand_goes g.slots.now c.words_of-o.result g.client g.block.now c.check_hand.ensures c.in_default.is)).front in
+    let f = front in
+    let o = c.words_of-o.result in
+    ((ranged o f.opened).pieces.1, (ranged o f.opened).width.1)
+
+pub returns : goal.returns
+unfolding hand_slots
+returns c =
+    let g = c.args in
+    let o = c.words_of-o.result in
+    let b = g.block.now in
+    let slots = c.put_piece.ensures
+    ∙ ap (λ (x : ℕ). over_at x (kept b o.width) g.slots.now) (c.start-at.ensures.0 ∙ ap (start g.client) c.word.ensures) in
+    let n = c.distinct-n.ensures.0 ∙ ap (λ (l : List ℕ). distinct l o g.client) slots in
+    let says = ap done n ∙ sym (hand_goes g.slots.now o g.client b c.check_hand.ensures c.in_default.is) ∙ ap (λ (x : Opening). hand_says g.slots.now x g.client b) c.words_of-o.ensures in (
+      says,
+      slots ∙ ap (λ (x : Opening). hand_slots g.slots.now x g.client b) c.words_of-o.ensures
+          ∙ sym (by_done (hand_says g.slots.now (words_in g.both g.client) g.client b) (hand_slots g.slots.now (words_in g.both g.client) g.client b) g.slots.now _ (sym says)),
+    )
