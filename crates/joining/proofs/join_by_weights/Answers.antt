@@ -13,7 +13,7 @@ use Rattle.joining.proofs.join_by_weights.Goals as goal
 pub taken-part-requires : goal.taken-part-requires
 taken-part-requires c = let gives : let a = c.args in joining a.pile.now (length a.out.now) ≡ done c.in-Done.w = sym c.check_join.ensures.says ∙ ap outcome c.in-Done.is in
     let pile_full : Full c.args.pile.now = full _ c.args.out.now _ (gives) in
-    (pile_full, c.check_join.ensures.table _ (ap outcome c.in-Done.is))
+    record { full = pile_full; table_value = c.check_join.ensures.table _ (ap outcome c.in-Done.is) }
 
 pub overflow_add-end : goal.overflow_add-end
 overflow_add-end c = let gives : let a = c.args in joining a.pile.now (length a.out.now) ≡ done c.in-Done.w = sym c.check_join.ensures.says ∙ ap outcome c.in-Done.is in

@@ -2,7 +2,6 @@
 -- Assumes nothing.
 use native.Mathlib.Omega.{arith}
 use mathlib.Core.Path.{◌≡◌, refl, ap, ◌∙◌}
-use mathlib.Core.Logic.{⊎_elim}
 use Prim.Native.Nat.{ℕ, ◌-◌}
 use lib.ListN.{length}
 use Rattle.lists.specs.Places.{those}
@@ -10,6 +9,7 @@ use Rattle.lists.proofs.ThoseLaws.{those-few}
 use Rattle.joining.specs.Inner.{placed}
 use Rattle.joining.proofs.ShortLaws.{turn_found, turn_missing}
 use Rattle.joining.proofs.checks.count_present.Goals as goal
+use Rattle.joining.proofs.checks.count_present.Goals.{then-table-j-ne0, else-table-j-ne0}
 
 pub loop-j-init : goal.loop-j-init
 unfolding those
@@ -23,10 +23,7 @@ pub loop-j-preserved : goal.loop-j-preserved
 loop-j-preserved c =
     let t = c.args.table.now in (
       omega arith,
-      ⊎_elim
-          (λ x. x.1 ∙ turn_found t c.loop-j.j c.loop-j.found c.loop-j.invariant.1 x.0.taken)
-          (λ x. x.1 ∙ turn_missing t c.loop-j.j c.loop-j.found c.loop-j.invariant.1 x.0.left)
-          c.if-table-j-ne0.branch,
+      elim c.if-table-j-ne0.branch [ then-table-j-ne0 w ↦ w.found-is ∙ turn_found t c.loop-j.j c.loop-j.found c.loop-j.invariant.1 w.if-table-j-ne0.true | else-table-j-ne0 w ↦ w.found-is ∙ turn_missing t c.loop-j.j c.loop-j.found c.loop-j.invariant.1 w.if-table-j-ne0.false ],
     )
 
 pub returns : goal.returns

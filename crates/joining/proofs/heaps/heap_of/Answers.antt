@@ -1,7 +1,6 @@
 -- `joining::heaps::heap_of` meets its contract. The invariant: the size counts the blocks of the deal before block a.
 -- Assumes nothing.
 use mathlib.Core.Path.{◌≡◌, refl, sym, ap, ◌∙◌}
-use mathlib.Core.Logic.{⊎_elim}
 use Prim.Native.Nat.{ℕ, ◌+◌, ◌-◌}
 use native.Mathlib.Omega.{arith}
 use lib.ListN.{length}
@@ -12,6 +11,7 @@ use Rattle.pile.specs.Blocks.{blocks, deal_at}
 use Rattle.joining.specs.Pile.{heap_of}
 use Rattle.joining.proofs.HeapLaws.{counted, counted-few, count_in, count_out}
 use Rattle.joining.proofs.heaps.heap_of.Goals as goal
+use Rattle.joining.proofs.heaps.heap_of.Goals.{then-same_deal, else-same_deal}
 
 pub loop-a-init : goal.loop-a-init
 unfolding those
@@ -34,10 +34,7 @@ loop-a-preserved c = let says : c.same_deal.result ≡ same_deal (deal_at c.args
     let i = c.loop-a.invariant in (
       omega arith,
       omega arith,
-      ⊎_elim
-          (λ x. x.1 ∙ count_in s.pile.now s.d c.loop-a.a c.loop-a.size i.0 i.2 (sym (says) ∙ x.0.taken))
-          (λ x. x.1 ∙ count_out s.pile.now s.d c.loop-a.a c.loop-a.size i.0 i.2 (sym (says) ∙ x.0.left))
-          c.if-same_deal.branch,
+      elim c.if-same_deal.branch [ then-same_deal w ↦ w.size-is ∙ count_in s.pile.now s.d c.loop-a.a c.loop-a.size i.0 i.2 (sym (says) ∙ w.if-same_deal.true) | else-same_deal w ↦ w.size-is ∙ count_out s.pile.now s.d c.loop-a.a c.loop-a.size i.0 i.2 (sym (says) ∙ w.if-same_deal.false) ],
     )
 
 pub returns : goal.returns

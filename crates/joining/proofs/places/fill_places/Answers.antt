@@ -1,6 +1,5 @@
 -- `joining::places::fill_places` meets its contract. The invariant: the table is that of the blocks before block a. Assumes nothing.
 use mathlib.Core.Path.{◌≡◌, ap, ◌∙◌}
-use mathlib.Core.Logic.{⊎_elim}
 use Prim.Native.Nat.{◌+◌, ◌-◌, ◌≤◌, ◌<◌}
 use native.Mathlib.Omega.{arith}
 use Rattle.pile.specs.Blocks.{blocks, In}
@@ -8,6 +7,7 @@ use Rattle.joining.specs.Pile.{piece_at, has_piece}
 use Rattle.joining.proofs.PileLaws.{piece_in_lem}
 use Rattle.joining.proofs.TableLaws.{table_to, table-start, turn_new, turn_kept, piece_here, piece_else, piece_end}
 use Rattle.joining.proofs.places.fill_places.Goals as goal
+use Rattle.joining.proofs.places.fill_places.Goals.{then-table-at-eq0, else-table-at-eq0}
 
 pub loop-a-init : goal.loop-a-init
 loop-a-init c =
@@ -84,10 +84,7 @@ loop-a-preserved c = let inside : In c.args.pile.now c.loop-a.a = (c.loop-a.inva
     let few : at < 560 = omega (arith, (piece).0, (piece).1) in (
       omega arith,
       omega arith,
-      ⊎_elim
-          (λ t. t.1 ∙ turn_new (has_piece p) 560 c.loop-a.table a at c.loop-a.invariant.0 few here else c.loop-a.invariant.2 t.0.taken)
-          (λ t. t.1 ∙ turn_kept (has_piece p) 560 c.loop-a.table a at c.loop-a.invariant.0 few here else c.loop-a.invariant.2 t.0.left)
-          c.if-table-at-eq0.branch,
+      elim c.if-table-at-eq0.branch [ then-table-at-eq0 w ↦ w.table-is ∙ turn_new (has_piece p) 560 c.loop-a.table a at c.loop-a.invariant.0 few here else c.loop-a.invariant.2 w.if-table-at-eq0.true | else-table-at-eq0 w ↦ w.table-is ∙ turn_kept (has_piece p) 560 c.loop-a.table a at c.loop-a.invariant.0 few here else c.loop-a.invariant.2 w.if-table-at-eq0.false ],
     )
 
 pub returns : goal.returns

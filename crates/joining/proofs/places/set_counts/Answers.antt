@@ -2,7 +2,7 @@
 -- Assumes nothing.
 use mathlib.Core.Path.{◌≡◌, sym, ap, ◌∙◌}
 use mathlib.Core.List.{map}
-use mathlib.Core.Logic.{◌≢◌, ⊎_elim}
+use mathlib.Core.Logic.{◌≢◌}
 use Prim.Native.Nat.{ℕ, ◌+◌, ◌-◌, ◌≤◌, ◌<◌}
 use native.Mathlib.Omega.{arith}
 use lib.ListN.{set}
@@ -11,6 +11,7 @@ use Rattle.joining.specs.Inner.{said}
 use Rattle.joining.proofs.PileLaws.{ranges, set_in}
 use Rattle.joining.proofs.TableLaws.{table_to, table-start, said_new, said-kept, in_set, set_here, set_else, set_end, none_said, some-said}
 use Rattle.joining.proofs.places.set_counts.Goals as goal
+use Rattle.joining.proofs.places.set_counts.Goals.{then-table-set-eq0, else-table-set-eq0}
 
 pub loop-a-init : goal.loop-a-init
 unfolding said
@@ -67,13 +68,11 @@ loop-a-preserved c = let inside : In c.args.pile.now c.loop-a.a = (c.loop-a.inva
     let few : at < 71 = omega (arith, set_70) in (
       omega arith,
       omega arith,
-      ⊎_elim
-          (λ t.
-          t.2 ∙ ap (set c.loop-a.table at) (t.1.ensures ∙ sym (some-said p a c.loop-a.invariant.0))
-          ∙ said_new (in_set p) 71 (said p) (none_said p) c.loop-a.table a at c.loop-a.invariant.0 few here else c.loop-a.invariant.2 (some) t.0.taken)
-          (λ t.
-          t.1 ∙ said-kept (in_set p) 71 (said p) (none_said p) c.loop-a.table a at c.loop-a.invariant.0 few here else c.loop-a.invariant.2 t.0.left)
-          c.if-table-set-eq0.branch,
+      elim c.if-table-set-eq0.branch [
+        | then-table-set-eq0 w ↦ w.table-is ∙ ap (set c.loop-a.table at) (w.word.ensures ∙ sym (some-said p a c.loop-a.invariant.0))
+            ∙ said_new (in_set p) 71 (said p) (none_said p) c.loop-a.table a at c.loop-a.invariant.0 few here else c.loop-a.invariant.2 (some) w.if-table-set-eq0.true
+        | else-table-set-eq0 w ↦ w.table-is ∙ said-kept (in_set p) 71 (said p) (none_said p) c.loop-a.table a at c.loop-a.invariant.0 few here else c.loop-a.invariant.2 w.if-table-set-eq0.false
+      ],
     )
 
 pub returns : goal.returns

@@ -33,7 +33,7 @@ loop-i-preserved c =
       omega arith,
       length-set c.loop-i.out c.loop-i.i s.result ∙ v.1,
       omega arith,
-      over_on (λ m. joined (column (value_at p) (own_pieces p) m)) c.args.out.now c.loop-i.out c.loop-i.i s.result (omega (arith, c.requires.w_in_bounds)) s.ensures.0 v.3,
+      over_on (λ m. joined (column (value_at p) (own_pieces p) m)) c.args.out.now c.loop-i.out c.loop-i.i s.result (omega (arith, c.requires.w_in_bounds)) s.ensures.says v.3,
     )
 
 pub shape_of-out : goal.shape_of-out
