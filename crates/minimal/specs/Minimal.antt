@@ -29,7 +29,7 @@ set_of n required s = at (minimals n required) s
 unfoldable pub sets_with : List ℕ → ℕ → ℕ → List ℕ
 sets_with sets i c = those (λ s. member i (at sets s)) 1 c
 
--- how many of persons 1 to c are in the set; up to 16, its memberCount
+-- how many of persons 1 to c are in the set; up to 16, its member_count
 unfoldable pub counted : ℕ → ℕ → ℕ
 counted set c = length (those (λ i. member i set) 1 c)
 
