@@ -1,5 +1,7 @@
 // Deals to eight people, of whom any four open, 16 words: 70 sets, and the largest cards; and of whom all must come.
 use crate::case;
+use std::io;
+use std::io::Write;
 
 // Randomness for 16 words and 70 sets of four.
 fn many() -> [u16; 3360] {
@@ -26,29 +28,31 @@ fn fours() -> [u16; 70] {
 }
 
 // Any four of eight people, 16 words.
-fn any_four(name: &[u8], holder: usize, room: usize) {
+fn any_four(to: &mut impl Write, name: &[u8], holder: usize, room: usize) -> io::Result<()> {
     let none = [0u16; 0];
     let sets = fours();
     let secret = [
         1u16, 2, 3, 5, 8, 13, 21, 34, 32748, 0, 999, 1000, 12345, 32000, 31, 16384,
     ];
     let random = many();
-    case(name, 8, &sets, &none, 32748, holder, &secret, &random, room);
+    case(
+        to, name, 8, &sets, &none, 32748, holder, &secret, &random, room,
+    )
 }
 
 // All eight people.
-fn all_eight(name: &[u8], holder: usize) {
+fn all_eight(to: &mut impl Write, name: &[u8], holder: usize) -> io::Result<()> {
     let none = [0u16; 0];
     let sets = [255u16];
     let secret = [12345u16];
     let random = [1u16, 32748, 3, 4, 32000, 6, 7];
-    case(name, 8, &sets, &none, 0, holder, &secret, &random, 512);
+    case(to, name, 8, &sets, &none, 0, holder, &secret, &random, 512)
 }
 
-pub fn cards() {
-    any_four(b"any four of eight, holder", 1, 17920);
-    any_four(b"any four of eight, holder", 8, 18000);
-    any_four(b"any four of eight, 17919 bytes, holder", 8, 17919);
-    all_eight(b"all eight, holder", 1);
-    all_eight(b"all eight, holder", 8);
+pub fn cards(to: &mut impl Write) -> io::Result<()> {
+    any_four(to, b"any four of eight, holder", 1, 17920)?;
+    any_four(to, b"any four of eight, holder", 8, 18000)?;
+    any_four(to, b"any four of eight, 17919 bytes, holder", 8, 17919)?;
+    all_eight(to, b"all eight, holder", 1)?;
+    all_eight(to, b"all eight, holder", 8)
 }

@@ -1,5 +1,7 @@
 // A deal to eight people of whom any five open, 16 words: its largest cards.
 use crate::case;
+use std::io;
+use std::io::Write;
 
 // Randomness for 16 words and 70 pieces.
 fn many() -> [u16; 1104] {
@@ -26,18 +28,20 @@ fn fives() -> [u16; 56] {
 }
 
 // Any five of eight people, 16 words.
-fn card(name: &[u8], holder: usize, room: usize) {
+fn card(to: &mut impl Write, name: &[u8], holder: usize, room: usize) -> io::Result<()> {
     let none = [0u16; 0];
     let sets = fives();
     let secret = [
         1u16, 2, 3, 5, 8, 13, 21, 34, 32748, 0, 999, 1000, 12345, 32000, 31, 16384,
     ];
     let random = many();
-    case(name, 8, &sets, &none, 32748, holder, &secret, &random, room);
+    case(
+        to, name, 8, &sets, &none, 32748, holder, &secret, &random, room,
+    )
 }
 
-pub fn cards() {
-    card(b"any five of eight, holder", 1, 17920);
-    card(b"any five of eight, holder", 8, 18000);
-    card(b"any five of eight, 17919 bytes, holder", 8, 17919);
+pub fn cards(to: &mut impl Write) -> io::Result<()> {
+    card(to, b"any five of eight, holder", 1, 17920)?;
+    card(to, b"any five of eight, holder", 8, 18000)?;
+    card(to, b"any five of eight, 17919 bytes, holder", 8, 17919)
 }

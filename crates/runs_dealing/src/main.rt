@@ -6,8 +6,12 @@ mod eight;
 mod show;
 mod years;
 
+use std::io;
+use std::io::Write;
+
 // Deals one card into the first `room` bytes of what is lent, and prints the answer under its name.
 pub fn deal(
+    to: &mut impl Write,
     name: &[u8],
     people: usize,
     required: &[u16],
@@ -19,11 +23,11 @@ pub fn deal(
     random: &[u16],
     out: &mut [u8],
     room: usize,
-) {
+) -> io::Result<()> {
     if room <= out.len() {
-        io::write_all(1, name);
-        show::number(holder);
-        io::write_all(1, b":");
+        to.write_all(name)?;
+        show::number(to, holder)?;
+        to.write_all(b":")?;
         let answer = dealing::deal(
             people,
             required,
@@ -35,12 +39,14 @@ pub fn deal(
             random,
             &mut out[..room],
         );
-        show::show(answer, out);
+        show::show(to, answer, out)?;
     }
+    Ok(())
 }
 
 // The same in the year 0 into the first of 18000 bytes, all of them 9.
 pub fn case(
+    to: &mut impl Write,
     name: &[u8],
     people: usize,
     required: &[u16],
@@ -50,9 +56,10 @@ pub fn case(
     secret: &[u16],
     random: &[u16],
     room: usize,
-) {
+) -> io::Result<()> {
     let mut out = [9u8; 18000];
     deal(
+        to,
         name,
         people,
         required,
@@ -64,21 +71,23 @@ pub fn case(
         random,
         &mut out,
         room,
-    );
+    )
 }
 
 // A case with the policy of P1.
 fn four(
+    to: &mut impl Write,
     name: &[u8],
     deal_number: usize,
     holder: usize,
     secret: &[u16],
     random: &[u16],
     room: usize,
-) {
+) -> io::Result<()> {
     let required = [3u16, 6, 12];
     let forbidden = [9u16];
     case(
+        to,
         name,
         4,
         &required,
@@ -88,47 +97,66 @@ fn four(
         secret,
         random,
         room,
-    );
+    )
 }
 
 // The same, with one secret word d and the coefficients a and b.
-fn one(name: &[u8], deal_number: usize, holder: usize, d: u16, a: u16, b: u16, room: usize) {
+fn one(
+    to: &mut impl Write,
+    name: &[u8],
+    deal_number: usize,
+    holder: usize,
+    d: u16,
+    a: u16,
+    b: u16,
+    room: usize,
+) -> io::Result<()> {
     let secret = [d];
     let random = [a, b];
-    four(name, deal_number, holder, &secret, &random, room);
+    four(to, name, deal_number, holder, &secret, &random, room)
 }
 
 // Secrets and randomness of other lengths.
-fn lengths() {
+fn lengths(to: &mut impl Write) -> io::Result<()> {
     let none = [0u16; 0];
     let seventeen = [1u16; 17];
     let four_and_thirty = [1u16; 34];
     let two = [1234u16, 0];
     let three = [1u16, 32767, 32749];
     let coefficients = [5u16, 7, 23483, 10512];
-    four(b"two words, holder", 7, 1, &two, &coefficients, 512);
-    four(b"no secret, holder", 7, 4, &none, &none, 512);
-    four(b"17 words, holder", 7, 4, &seventeen, &four_and_thirty, 512);
-    four(b"second word 32767, holder", 7, 4, &three, &none, 512);
+    four(to, b"two words, holder", 7, 1, &two, &coefficients, 512)?;
+    four(to, b"no secret, holder", 7, 4, &none, &none, 512)?;
     four(
+        to,
+        b"17 words, holder",
+        7,
+        4,
+        &seventeen,
+        &four_and_thirty,
+        512,
+    )?;
+    four(to, b"second word 32767, holder", 7, 4, &three, &none, 512)?;
+    four(
+        to,
         b"two words with two coefficients, holder",
         7,
         4,
         &two,
         &two,
         512,
-    );
-    four(b"two words with none, holder", 7, 4, &two, &none, 512);
+    )?;
+    four(to, b"two words with none, holder", 7, 4, &two, &none, 512)
 }
 
 // Other policies: P3, whose holder 3 has no piece; two people, who have a piece each; one person, who would open alone; and three that planning
 // refuses, with all else wrong.
-fn policies() {
+fn policies(to: &mut impl Write) -> io::Result<()> {
     let none = [0u16; 0];
     let first = [1u16];
     let both = [3u16];
     let words = [1u16, 32748];
     case(
+        to,
         b"P3, no bytes, holder",
         3,
         &both,
@@ -138,8 +166,9 @@ fn policies() {
         &first,
         &first,
         0,
-    );
+    )?;
     case(
+        to,
         b"two pieces, holder",
         2,
         &both,
@@ -149,8 +178,9 @@ fn policies() {
         &words,
         &words,
         512,
-    );
+    )?;
     case(
+        to,
         b"one person alone, holder",
         1,
         &first,
@@ -160,8 +190,9 @@ fn policies() {
         &words,
         &none,
         512,
-    );
+    )?;
     case(
+        to,
         b"all wrong, and one person alone, holder",
         2,
         &first,
@@ -171,8 +202,9 @@ fn policies() {
         &none,
         &none,
         0,
-    );
+    )?;
     case(
+        to,
         b"all wrong, and clash, holder",
         2,
         &both,
@@ -182,8 +214,9 @@ fn policies() {
         &none,
         &none,
         0,
-    );
+    )?;
     case(
+        to,
         b"all wrong, and nine people, holder",
         9,
         &none,
@@ -193,18 +226,26 @@ fn policies() {
         &none,
         &none,
         0,
-    );
+    )
 }
 
 // A policy that planning refuses, with all else right.
-fn bad(name: &[u8], people: usize, required: &[u16], forbidden: &[u16]) {
+fn bad(
+    to: &mut impl Write,
+    name: &[u8],
+    people: usize,
+    required: &[u16],
+    forbidden: &[u16],
+) -> io::Result<()> {
     let none = [0u16; 0];
     let secret = [1u16];
-    case(name, people, required, forbidden, 1, 1, &secret, &none, 512);
+    case(
+        to, name, people, required, forbidden, 1, 1, &secret, &none, 512,
+    )
 }
 
 // Refusals 1 to 6 and 22, as planning gives them.
-fn bad_policies() {
+fn bad_policies(to: &mut impl Write) -> io::Result<()> {
     let none = [0u16; 0];
     let first = [1u16];
     let both = [3u16];
@@ -212,29 +253,37 @@ fn bad_policies() {
     let open = [1u16, 0];
     let stranger = [1u16, 3, 4];
     let long = [1u16; 257];
-    bad(b"no people, holder", 0, &first, &none);
-    bad(b"257 required sets, holder", 2, &long, &none);
-    bad(b"257 forbidden sets, holder", 2, &first, &long);
-    bad(b"a stranger, holder", 2, &stranger, &none);
-    bad(b"a forbidden stranger, holder", 2, &first, &stranger);
-    bad(b"no required set, holder", 2, &none, &first);
-    bad(b"an empty required set, holder", 2, &open, &none);
-    bad(b"a required set of one, holder", 2, &alone, &none);
-    bad(b"the same set of one forbidden, holder", 2, &first, &first);
-    bad(b"clash, holder", 2, &both, &both);
+    bad(to, b"no people, holder", 0, &first, &none)?;
+    bad(to, b"257 required sets, holder", 2, &long, &none)?;
+    bad(to, b"257 forbidden sets, holder", 2, &first, &long)?;
+    bad(to, b"a stranger, holder", 2, &stranger, &none)?;
+    bad(to, b"a forbidden stranger, holder", 2, &first, &stranger)?;
+    bad(to, b"no required set, holder", 2, &none, &first)?;
+    bad(to, b"an empty required set, holder", 2, &open, &none)?;
+    bad(to, b"a required set of one, holder", 2, &alone, &none)?;
+    bad(
+        to,
+        b"the same set of one forbidden, holder",
+        2,
+        &first,
+        &first,
+    )?;
+    bad(to, b"clash, holder", 2, &both, &both)
 }
 
 // P11's deal to each of its holders.
-fn holders() {
+fn holders(to: &mut impl Write) -> io::Result<()> {
     for holder in 1..5 {
-        one(b"P11, holder", 7, holder, 1234, 5, 7, 1536);
+        one(to, b"P11, holder", 7, holder, 1234, 5, 7, 1536)?;
     }
+    Ok(())
 }
 
-fn cards() {
-    one(b"P9, holder", 7, 2, 32748, 1, 0, 1536);
-    one(b"P9, holder", 7, 3, 32748, 1, 0, 1536);
+fn cards(to: &mut impl Write) -> io::Result<()> {
+    one(to, b"P9, holder", 7, 2, 32748, 1, 0, 1536)?;
+    one(to, b"P9, holder", 7, 3, 32748, 1, 0, 1536)?;
     one(
+        to,
         b"coefficients of 32748, holder",
         7,
         3,
@@ -242,23 +291,24 @@ fn cards() {
         32748,
         32748,
         1536,
-    );
-    one(b"512 bytes, holder", 7, 4, 1234, 5, 7, 512);
-    one(b"511 bytes, holder", 7, 4, 1234, 5, 7, 511);
-    one(b"1023 bytes, holder", 7, 2, 1234, 5, 7, 1023);
-    one(b"no bytes, holder", 7, 2, 1234, 5, 7, 0);
+    )?;
+    one(to, b"512 bytes, holder", 7, 4, 1234, 5, 7, 512)?;
+    one(to, b"511 bytes, holder", 7, 4, 1234, 5, 7, 511)?;
+    one(to, b"1023 bytes, holder", 7, 2, 1234, 5, 7, 1023)?;
+    one(to, b"no bytes, holder", 7, 2, 1234, 5, 7, 0)
 }
 
-fn ranges() {
-    one(b"deal 32748, holder", 32748, 4, 1234, 5, 7, 512);
-    one(b"deal 32749, holder", 32749, 4, 1234, 5, 7, 512);
-    one(b"deal 0, holder", 0, 4, 1234, 5, 7, 512);
-    one(b"holder", 7, 0, 1234, 5, 7, 512);
-    one(b"holder", 7, 5, 1234, 5, 7, 512);
-    one(b"secret 32749, holder", 7, 4, 32749, 5, 7, 512);
-    one(b"coefficient 32749, holder", 7, 4, 1234, 5, 32749, 512);
-    one(b"all wrong, holder", 0, 5, 32749, 32749, 32749, 0);
+fn ranges(to: &mut impl Write) -> io::Result<()> {
+    one(to, b"deal 32748, holder", 32748, 4, 1234, 5, 7, 512)?;
+    one(to, b"deal 32749, holder", 32749, 4, 1234, 5, 7, 512)?;
+    one(to, b"deal 0, holder", 0, 4, 1234, 5, 7, 512)?;
+    one(to, b"holder", 7, 0, 1234, 5, 7, 512)?;
+    one(to, b"holder", 7, 5, 1234, 5, 7, 512)?;
+    one(to, b"secret 32749, holder", 7, 4, 32749, 5, 7, 512)?;
+    one(to, b"coefficient 32749, holder", 7, 4, 1234, 5, 32749, 512)?;
+    one(to, b"all wrong, holder", 0, 5, 32749, 32749, 32749, 0)?;
     one(
+        to,
         b"all wrong but the deal, holder",
         7,
         5,
@@ -266,8 +316,9 @@ fn ranges() {
         32749,
         32749,
         0,
-    );
+    )?;
     one(
+        to,
         b"secret, randomness and room wrong, holder",
         7,
         4,
@@ -275,8 +326,9 @@ fn ranges() {
         32749,
         32749,
         0,
-    );
+    )?;
     one(
+        to,
         b"randomness and room wrong, holder",
         7,
         4,
@@ -284,16 +336,17 @@ fn ranges() {
         32749,
         32749,
         0,
-    );
+    )
 }
 
-fn main() {
-    holders();
-    cards();
-    ranges();
-    years::years();
-    lengths();
-    policies();
-    bad_policies();
-    eight::cards();
+fn main(rt: HostRuntime) -> io::Result<()> {
+    let mut to = rt.stdout();
+    holders(&mut to)?;
+    cards(&mut to)?;
+    ranges(&mut to)?;
+    years::years(&mut to)?;
+    lengths(&mut to)?;
+    policies(&mut to)?;
+    bad_policies(&mut to)?;
+    eight::cards(&mut to)
 }

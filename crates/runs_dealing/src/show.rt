@@ -2,10 +2,11 @@
 ghost use Rattle.std.specs.Prelude.{◌≤◌};
 
 use answer::{Answer, Refusal};
+use std::io;
+use std::io::Write;
 
-pub fn number(n: usize) {
-    io::write_all(1, b" ");
-    io::print_decimal(1, n as u64);
+pub fn number(to: &mut impl Write, n: usize) -> io::Result<()> {
+    write!(to, " {n}")
 }
 
 fn wide(x: u8) -> usize {
@@ -13,60 +14,62 @@ fn wide(x: u8) -> usize {
 }
 
 // Word i of b.
-fn word(b: &[u8], i: usize)
+fn word(to: &mut impl Write, b: &[u8], i: usize) -> io::Result<()>
     requires { i ≤ 18000 }
 {
     if 1 <= i {
         if 2 * i <= b.len() {
-            number(block::word(b, i) as usize);
+            number(to, block::word(b, i) as usize)?;
         }
     }
+    Ok(())
 }
 
 // The block that follows so many: words 1 to 8 and 256.
-fn show_block(b: &[u8], before: usize)
+fn show_block(to: &mut impl Write, b: &[u8], before: usize) -> io::Result<()>
     requires { before ≤ 69 }
 {
     let first = 256 * before;
-    io::write_all(1, b"\n ");
+    to.write_all(b"\n ")?;
     for i in 1..9 {
-        word(b, first + i);
+        word(to, b, first + i)?;
     }
-    word(b, first + 256);
+    word(to, b, first + 256)
 }
 
 // The blocks of a card, and the byte that follows it.
-fn show_card(b: &[u8], count: usize) {
+fn show_card(to: &mut impl Write, b: &[u8], count: usize) -> io::Result<()> {
     for i in 0..70 {
         if i < count {
-            show_block(b, i);
+            show_block(to, b, i)?;
         }
     }
     if count <= 70 {
         let at = 512 * count;
         if at < b.len() {
-            io::write_all(1, b"\n  then");
-            number(wide(b[at]));
+            to.write_all(b"\n  then")?;
+            number(to, wide(b[at]))?;
         }
     }
+    Ok(())
 }
 
-fn refused(r: Refusal) {
+fn refused(to: &mut impl Write, r: Refusal) -> io::Result<()> {
     let kind = r.kind;
-    io::write_all(1, b" refused");
-    number(answer::number_of(kind));
-    number(r.a);
-    number(r.b);
+    to.write_all(b" refused")?;
+    number(to, answer::number_of(kind))?;
+    number(to, r.a)?;
+    number(to, r.b)
 }
 
-pub fn show(answer: Answer, out: &[u8]) {
+pub fn show(to: &mut impl Write, answer: Answer, out: &[u8]) -> io::Result<()> {
     match answer {
         Answer::Done(count) => {
-            io::write_all(1, b" blocks");
-            number(count);
-            show_card(out, count);
+            to.write_all(b" blocks")?;
+            number(to, count)?;
+            show_card(to, out, count)?;
         }
-        Answer::Refused(r) => refused(r),
+        Answer::Refused(r) => refused(to, r)?,
     }
-    io::write_all(1, b"\n");
+    to.write_all(b"\n")
 }

@@ -2,10 +2,11 @@
 ghost use Rattle.std.specs.Prelude.{◌≤◌};
 
 use answer::Answer;
+use std::io;
+use std::io::Write;
 
-pub fn number(n: usize) {
-    io::write_all(1, b" ");
-    io::print_decimal(1, n as u64);
+pub fn number(to: &mut impl Write, n: usize) -> io::Result<()> {
+    write!(to, " {n}")
 }
 
 fn wide(v: u16) -> usize {
@@ -13,31 +14,33 @@ fn wide(v: u16) -> usize {
 }
 
 // What a call is answered.
-pub fn say(name: &[u8], x: Answer) {
-    io::write_all(1, name);
+pub fn say(to: &mut impl Write, name: &[u8], x: Answer) -> io::Result<()> {
+    to.write_all(name)?;
     match x {
-        Answer::Done(v) => number(v),
+        Answer::Done(v) => number(to, v)?,
         Answer::Refused(r) => {
             let kind = r.kind;
-            io::write_all(1, b" refused");
-            number(answer::number_of(kind));
-            number(r.a);
-            number(r.b);
+            to.write_all(b" refused")?;
+            number(to, answer::number_of(kind))?;
+            number(to, r.a)?;
+            number(to, r.b)?;
         }
     }
+    Ok(())
 }
 
-pub fn line(name: &[u8], x: Answer) {
-    say(name, x);
-    io::write_all(1, b"\n");
+pub fn line(to: &mut impl Write, name: &[u8], x: Answer) -> io::Result<()> {
+    say(to, name, x)?;
+    to.write_all(b"\n")
 }
 
-pub fn show_words(words: &[u16]) {
+pub fn show_words(to: &mut impl Write, words: &[u16]) -> io::Result<()> {
     let mut i: usize = 0;
     while i < words.len() {
-        number(wide(words[i]));
+        number(to, wide(words[i]))?;
         i += 1;
     }
+    Ok(())
 }
 
 // 1 for a number that is not 0.
@@ -58,8 +61,8 @@ fn filled(slots: &[u16; 1190]) -> usize {
     found
 }
 
-pub fn left(slots: &[u16; 1190]) {
-    io::write_all(1, b"left in the store:");
-    number(filled(slots));
-    io::write_all(1, b"\n");
+pub fn left(to: &mut impl Write, slots: &[u16; 1190]) -> io::Result<()> {
+    to.write_all(b"left in the store:")?;
+    number(to, filled(slots))?;
+    to.write_all(b"\n")
 }

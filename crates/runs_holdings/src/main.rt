@@ -5,11 +5,14 @@
 mod lists;
 mod show;
 
-fn main() {
-    lists::two_of_three();
-    lists::first_policy();
-    lists::one_each();
-    lists::our_own();
-    lists::rows();
-    lists::planning_first();
+use std::io;
+
+fn main(rt: HostRuntime) -> io::Result<()> {
+    let mut to = rt.stdout();
+    lists::two_of_three(&mut to)?;
+    lists::first_policy(&mut to)?;
+    lists::one_each(&mut to)?;
+    lists::our_own(&mut to)?;
+    lists::rows(&mut to)?;
+    lists::planning_first(&mut to)
 }

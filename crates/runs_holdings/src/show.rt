@@ -1,37 +1,39 @@
 // The answer to one list, under its name.
 use holdings::Judged;
+use std::io;
+use std::io::Write;
 
-fn number(x: usize) {
-    io::write_all(1, b" ");
-    io::print_decimal(1, x as u64);
+fn number(to: &mut impl Write, x: usize) -> io::Result<()> {
+    write!(to, " {x}")
 }
 
-fn judged(x: Judged) {
+fn judged(to: &mut impl Write, x: Judged) -> io::Result<()> {
     match x {
         Judged::Suits => {
-            io::write_all(1, b": suits");
+            to.write_all(b": suits")?;
         }
         Judged::Few(g) => {
-            io::write_all(1, b": few");
-            number(g);
+            to.write_all(b": few")?;
+            number(to, g)?;
         }
         Judged::Many(g) => {
-            io::write_all(1, b": many");
-            number(g);
+            to.write_all(b": many")?;
+            number(to, g)?;
         }
         Judged::Refused(r) => {
-            io::write_all(1, b": refused");
+            to.write_all(b": refused")?;
             let kind = r.kind;
-            number(answer::number_of(kind));
-            number(r.a);
-            number(r.b);
+            number(to, answer::number_of(kind))?;
+            number(to, r.a)?;
+            number(to, r.b)?;
         }
     }
-    io::write_all(1, b"\n");
+    to.write_all(b"\n")
 }
 
 // Judges a list for a policy that forbids no set.
 pub fn show(
+    to: &mut impl Write,
     name: &[u8],
     people: usize,
     required: &[u16],
@@ -39,8 +41,11 @@ pub fn show(
     pieces: usize,
     needed: usize,
     marks: &[u8],
-) {
-    io::write_all(1, name);
+) -> io::Result<()> {
+    to.write_all(name)?;
     let none = [0u16; 0];
-    judged(holdings::judge(people, required, &none, list_people, pieces, needed, marks));
+    judged(
+        to,
+        holdings::judge(people, required, &none, list_people, pieces, needed, marks),
+    )
 }

@@ -1,6 +1,8 @@
 // Piles of blocks by sets, made word by word: a deal of number 7 to four people, of one word, 1234. Its sets are 1 and 2, 2 and 3, 3 and 4, of two
 // pieces each.
 use crate::front;
+use std::io;
+use std::io::Write;
 
 // What a block of the deal holds beside the number, the people and w.
 #[derive(Clone, Copy)]
@@ -109,59 +111,140 @@ fn lay(pile: &mut [u8], a: usize, n: usize) {
 }
 
 // The pile of that many bytes: the blocks of these four numbers, or of as many as lie in it.
-fn pile(joiner: usize, name: &[u8], bytes: usize, x: usize, y: usize, z: usize, u: usize) {
+fn pile(
+    to: &mut impl Write,
+    joiner: usize,
+    name: &[u8],
+    bytes: usize,
+    x: usize,
+    y: usize,
+    z: usize,
+    u: usize,
+) -> io::Result<()> {
     let mut cards = [0u8; 2048];
     lay(&mut cards, 0, x);
     lay(&mut cards, 1, y);
     lay(&mut cards, 2, z);
     lay(&mut cards, 3, u);
     let mut words = [9u16; 2];
-    front(joiner, name, &cards, bytes, &mut words);
+    front(to, joiner, name, &cards, bytes, &mut words)
 }
 
 // Whole cards of two people.
-fn groups(joiner: usize) {
-    pile(joiner, b"1 and 2:", 1536, 11, 12, 21, 0);
-    pile(joiner, b"2 and 1:", 1536, 12, 21, 11, 0);
-    pile(joiner, b"1 and 3:", 1536, 11, 22, 31, 0);
-    pile(joiner, b"1 and 4:", 1024, 11, 32, 0, 0);
-    pile(joiner, b"2 and 3:", 2048, 12, 21, 22, 31);
-    pile(joiner, b"2 and 4:", 1536, 12, 21, 32, 0);
-    pile(joiner, b"3 and 4:", 1536, 22, 31, 32, 0);
+fn groups(to: &mut impl Write, joiner: usize) -> io::Result<()> {
+    pile(to, joiner, b"1 and 2:", 1536, 11, 12, 21, 0)?;
+    pile(to, joiner, b"2 and 1:", 1536, 12, 21, 11, 0)?;
+    pile(to, joiner, b"1 and 3:", 1536, 11, 22, 31, 0)?;
+    pile(to, joiner, b"1 and 4:", 1024, 11, 32, 0, 0)?;
+    pile(to, joiner, b"2 and 3:", 2048, 12, 21, 22, 31)?;
+    pile(to, joiner, b"2 and 4:", 1536, 12, 21, 32, 0)?;
+    pile(to, joiner, b"3 and 4:", 1536, 22, 31, 32, 0)
 }
 
 // The smallest set, the highest one, and of two complete sets, one of them altered, the lower.
-fn lowest(joiner: usize) {
-    pile(joiner, b"a set of one piece:", 512, 101, 0, 0, 0);
-    pile(joiner, b"set 70:", 1024, 702, 701, 0, 0);
-    pile(joiner, b"sets 3 and 1, 3 altered:", 2048, 311, 32, 11, 12);
-    pile(joiner, b"sets 3 and 1, 1 altered:", 2048, 31, 32, 111, 12);
+fn lowest(to: &mut impl Write, joiner: usize) -> io::Result<()> {
+    pile(to, joiner, b"a set of one piece:", 512, 101, 0, 0, 0)?;
+    pile(to, joiner, b"set 70:", 1024, 702, 701, 0, 0)?;
+    pile(
+        to,
+        joiner,
+        b"sets 3 and 1, 3 altered:",
+        2048,
+        311,
+        32,
+        11,
+        12,
+    )?;
+    pile(
+        to,
+        joiner,
+        b"sets 3 and 1, 1 altered:",
+        2048,
+        31,
+        32,
+        111,
+        12,
+    )
 }
 
 // Blocks that contradict each other.
-fn conflicts(joiner: usize) {
-    pile(joiner, b"a piece with other values:", 1024, 11, 111, 0, 0);
-    pile(joiner, b"a piece with another count:", 1024, 11, 112, 0, 0);
-    pile(joiner, b"a set with another count:", 1024, 12, 112, 0, 0);
-    pile(joiner, b"other values, third:", 1536, 12, 11, 111, 0);
-    pile(joiner, b"both, third:", 1536, 12, 11, 113, 0);
-    pile(joiner, b"one number in two sets:", 1024, 11, 21, 0, 0);
+fn conflicts(to: &mut impl Write, joiner: usize) -> io::Result<()> {
+    pile(
+        to,
+        joiner,
+        b"a piece with other values:",
+        1024,
+        11,
+        111,
+        0,
+        0,
+    )?;
+    pile(
+        to,
+        joiner,
+        b"a piece with another count:",
+        1024,
+        11,
+        112,
+        0,
+        0,
+    )?;
+    pile(
+        to,
+        joiner,
+        b"a set with another count:",
+        1024,
+        12,
+        112,
+        0,
+        0,
+    )?;
+    pile(to, joiner, b"other values, third:", 1536, 12, 11, 111, 0)?;
+    pile(to, joiner, b"both, third:", 1536, 12, 11, 113, 0)?;
+    pile(to, joiner, b"one number in two sets:", 1024, 11, 21, 0, 0)
 }
 
 // Blocks of both schemes, and headers that neither has.
-fn marks(joiner: usize) {
-    pile(joiner, b"a block without sets on top:", 1536, 1, 11, 12, 0);
-    pile(joiner, b"a block by sets at the end:", 1536, 1, 2, 11, 0);
-    pile(joiner, b"without sets:", 1024, 1, 2, 0, 0);
-    pile(joiner, b"set 0:", 512, 900, 0, 0, 0);
-    pile(joiner, b"set 71:", 512, 971, 0, 0, 0);
-    pile(joiner, b"five pieces of four people:", 512, 905, 0, 0, 0);
-    pile(joiner, b"set 1 without sets:", 512, 901, 0, 0, 0);
+fn marks(to: &mut impl Write, joiner: usize) -> io::Result<()> {
+    pile(
+        to,
+        joiner,
+        b"a block without sets on top:",
+        1536,
+        1,
+        11,
+        12,
+        0,
+    )?;
+    pile(
+        to,
+        joiner,
+        b"a block by sets at the end:",
+        1536,
+        1,
+        2,
+        11,
+        0,
+    )?;
+    pile(to, joiner, b"without sets:", 1024, 1, 2, 0, 0)?;
+    pile(to, joiner, b"set 0:", 512, 900, 0, 0, 0)?;
+    pile(to, joiner, b"set 71:", 512, 971, 0, 0, 0)?;
+    pile(
+        to,
+        joiner,
+        b"five pieces of four people:",
+        512,
+        905,
+        0,
+        0,
+        0,
+    )?;
+    pile(to, joiner, b"set 1 without sets:", 512, 901, 0, 0, 0)
 }
 
-pub fn by_sets(joiner: usize) {
-    groups(joiner);
-    lowest(joiner);
-    conflicts(joiner);
-    marks(joiner);
+pub fn by_sets(to: &mut impl Write, joiner: usize) -> io::Result<()> {
+    groups(to, joiner)?;
+    lowest(to, joiner)?;
+    conflicts(to, joiner)?;
+    marks(to, joiner)
 }

@@ -1,31 +1,27 @@
 // Lists each policy text that an argument names, a file of data/, and prints what the listing program prints for it, under its name.
 #![tactic(auto)]
 
-fn show(k: usize) {
-    let mut path = io::buffer();
-    let n = os::arg(k, &mut path);
-    if os::errno() != 0 {
-        os::fail(b"argument");
-        return;
-    }
-    let file = os::open_read(&path[..n]);
-    if file < 0 {
-        io::write_all(1, b"no such file\n");
-        return;
-    }
-    let mut text = [0u8; 16385];
-    let size = io::read_full(file, &mut text);
-    libc::close(file);
+use std::fs::File;
+use std::io::{Read, Write};
+use std::rt::Files;
+use std::{env, io};
+
+fn show(rt: &(impl Files + Alloc), to: &mut impl Write, path: &str) -> io::Result<()> {
+    let Ok(file) = File::open(rt, path) else {
+        return to.write_all(b"no such file\n");
+    };
+    let mut text = Vec::new(rt.alloc());
+    file.take(16385).read_to_end(&mut text)?;
     let mut out = [0u8; 4113];
-    let count = listing::listing(&text[..size], &mut out);
-    io::write_all(1, &path[..n]);
-    io::write_all(1, b": ");
-    io::write_all(1, &out[..count]);
+    let count = listing::listing(&text, &mut out);
+    write!(to, "{path}: ")?;
+    to.write_all(&out[..count])
 }
 
-fn main() {
-    let end = os::arg_count();
-    for k in 1..end {
-        show(k);
+fn main(rt: HostRuntime) -> io::Result<()> {
+    let mut to = rt.stdout();
+    for path in env::args(&rt)?.skip(1) {
+        show(&rt, &mut to, path.as_str())?;
     }
+    Ok(())
 }

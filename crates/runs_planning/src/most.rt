@@ -3,6 +3,8 @@ ghost use Rattle.std.specs.Prelude.{◌≤◌};
 
 use crate::{everybody, number, refused};
 use answer::Answer;
+use std::io;
+use std::io::Write;
 
 // The sets of so many people among the groups below `size`, 70 of them at most.
 fn sized(size: u32, members: u32) -> [u16; 70] {
@@ -19,48 +21,48 @@ fn sized(size: u32, members: u32) -> [u16; 70] {
     list
 }
 
-fn named(people: usize, members: u32) {
-    io::write_all(1, b"any");
-    number(members as usize);
-    io::write_all(1, b" of");
-    number(people);
+fn named(to: &mut impl Write, people: usize, members: u32) -> io::Result<()> {
+    to.write_all(b"any")?;
+    number(to, members as usize)?;
+    to.write_all(b" of")?;
+    number(to, people)
 }
 
 // How many pieces there are, and how many each person holds.
-fn pieces(people: usize, required: &[u16]) {
+fn pieces(to: &mut impl Write, people: usize, required: &[u16]) -> io::Result<()> {
     let none = [0u16; 0];
     let p = planning::plan(people, required, &none);
     let rows = planning::rows_of(p);
     match planning::answer_of(p) {
         Answer::Done(k) => {
-            io::write_all(1, b": pieces");
-            number(k);
-            io::write_all(1, b" held");
-            everybody(people, k, rows);
+            to.write_all(b": pieces")?;
+            number(to, k)?;
+            to.write_all(b" held")?;
+            everybody(to, people, k, rows)?;
         }
-        Answer::Refused(r) => refused(r),
+        Answer::Refused(r) => refused(to, r)?,
     }
-    io::write_all(1, b"\n");
+    to.write_all(b"\n")
 }
 
 // Any so many of the people, who have the groups below `size`: so many sets are required.
-fn any(people: usize, size: u32, members: u32, sets: usize)
+fn any(to: &mut impl Write, people: usize, size: u32, members: u32, sets: usize) -> io::Result<()>
     requires { sets ≤ 70 }
 {
-    named(people, members);
+    named(to, people, members)?;
     let required = sized(size, members);
-    pieces(people, &required[..sets]);
+    pieces(to, people, &required[..sets])
 }
 
 // Half of the people and one more: the most maximal groups that so many people have. One person cannot have an accepted policy.
-pub fn most() {
-    any(1, 2, 1, 1);
-    any(2, 4, 2, 1);
-    any(3, 8, 2, 3);
-    any(4, 16, 3, 4);
-    any(5, 32, 3, 10);
-    any(6, 64, 4, 15);
-    any(7, 128, 4, 35);
-    any(8, 256, 5, 56);
-    any(8, 256, 4, 70);
+pub fn most(to: &mut impl Write) -> io::Result<()> {
+    any(to, 1, 2, 1, 1)?;
+    any(to, 2, 4, 2, 1)?;
+    any(to, 3, 8, 2, 3)?;
+    any(to, 4, 16, 3, 4)?;
+    any(to, 5, 32, 3, 10)?;
+    any(to, 6, 64, 4, 15)?;
+    any(to, 7, 128, 4, 35)?;
+    any(to, 8, 256, 5, 56)?;
+    any(to, 8, 256, 4, 70)
 }

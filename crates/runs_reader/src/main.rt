@@ -6,111 +6,108 @@
 use answer::{Answer, Refusal};
 use block::Words;
 use reader::Seen;
+use std::fs::File;
+use std::io::{Read, Write};
+use std::rt::Files;
+use std::{env, io};
 
-fn number(n: usize) {
-    io::write_all(1, b" ");
-    io::print_decimal(1, n as u64);
+fn number(to: &mut impl Write, n: usize) -> io::Result<()> {
+    write!(to, " {n}")
 }
 
 fn wide(v: u16) -> usize {
     v as usize
 }
 
-fn head(h: Words) {
-    io::write_all(1, b" words");
-    number(h.mark as usize);
-    number(h.deal as usize);
-    number(h.holder as usize);
-    number(h.people as usize);
-    number(h.pieces as usize);
-    number(h.width as usize);
-    number(h.piece as usize);
+fn head(to: &mut impl Write, h: Words) -> io::Result<()> {
+    to.write_all(b" words")?;
+    number(to, h.mark as usize)?;
+    number(to, h.deal as usize)?;
+    number(to, h.holder as usize)?;
+    number(to, h.people as usize)?;
+    number(to, h.pieces as usize)?;
+    number(to, h.width as usize)?;
+    number(to, h.piece as usize)
 }
 
-fn refused(r: Refusal) {
+fn refused(to: &mut impl Write, r: Refusal) -> io::Result<()> {
     let kind = r.kind;
-    io::write_all(1, b" refused");
-    number(answer::number_of(kind));
-    number(r.a);
-    number(r.b);
+    to.write_all(b" refused")?;
+    number(to, answer::number_of(kind))?;
+    number(to, r.a)?;
+    number(to, r.b)
 }
 
-fn answered(seen: Seen) {
+fn answered(to: &mut impl Write, seen: Seen) -> io::Result<()> {
     match seen {
-        Seen::Head(h) => head(h),
-        Seen::Refused(r) => refused(r),
+        Seen::Head(h) => head(to, h)?,
+        Seen::Refused(r) => refused(to, r)?,
         Seen::Ended => {
-            io::write_all(1, b" ended");
+            to.write_all(b" ended")?;
         }
     }
+    Ok(())
 }
 
 // Value bytes, as words.
-fn values(b: &[u8]) {
+fn values(to: &mut impl Write, b: &[u8]) -> io::Result<()> {
     let mut i: usize = 0;
     while i < b.len() / 2 {
         i += 1;
-        number(wide(block::word(b, i)));
+        number(to, wide(block::word(b, i)))?;
     }
+    Ok(())
 }
 
 // Prints the answer after so many blocks, and gives how many are passed then.
-fn step(pile: &[u8], passed: usize) -> usize {
+fn step(to: &mut impl Write, pile: &[u8], passed: usize) -> io::Result<usize> {
     let s = reader::read_at(pile, passed);
     let seen = s.seen;
-    answered(seen);
-    io::write_all(1, b" values");
-    values(reader::values_of(pile, s.block));
-    io::write_all(1, b"\n");
-    s.block
+    answered(to, seen)?;
+    to.write_all(b" values")?;
+    values(to, reader::values_of(pile, s.block))?;
+    to.write_all(b"\n")?;
+    Ok(s.block)
 }
 
-fn walk(pile: &[u8]) {
+fn walk(to: &mut impl Write, pile: &[u8]) -> io::Result<()> {
     let end = pile.len() / 512 + 2;
     let mut passed: usize = 0;
     let mut i: usize = 0;
     while i < end {
-        passed = step(pile, passed);
+        passed = step(to, pile, passed)?;
         i += 1;
     }
+    Ok(())
 }
 
-fn whole(pile: &[u8]) {
-    io::write_all(1, b" all");
+fn whole(to: &mut impl Write, pile: &[u8]) -> io::Result<()> {
+    to.write_all(b" all")?;
     match reader::read_all(pile) {
         Answer::Done(n) => {
-            io::write_all(1, b" blocks");
-            number(n);
+            to.write_all(b" blocks")?;
+            number(to, n)?;
         }
-        Answer::Refused(r) => refused(r),
+        Answer::Refused(r) => refused(to, r)?,
     }
-    io::write_all(1, b"\n");
+    to.write_all(b"\n")
 }
 
-fn show(k: usize) {
-    let mut path = io::buffer();
-    let n = os::arg(k, &mut path);
-    if os::errno() != 0 {
-        os::fail(b"argument");
-        return;
-    }
-    let file = os::open_read(&path[..n]);
-    if file < 0 {
-        io::write_all(1, b"no such file\n");
-        return;
-    }
-    let mut pile = [0u8; 8192];
-    let size = io::read_full(file, &mut pile);
-    libc::close(file);
-    io::write_all(1, &path[..n]);
-    io::write_all(1, b":\n");
-    walk(&pile[..size]);
-    whole(&pile[..size]);
+fn show(rt: &(impl Files + Alloc), to: &mut impl Write, path: &str) -> io::Result<()> {
+    let Ok(file) = File::open(rt, path) else {
+        return to.write_all(b"no such file\n");
+    };
+    let mut pile = Vec::new(rt.alloc());
+    file.take(8192).read_to_end(&mut pile)?;
+    write!(to, "{path}:\n")?;
+    walk(to, &pile)?;
+    whole(to, &pile)
 }
 
-fn main() {
-    let end = os::arg_count();
-    for k in 1..end {
-        show(k);
+fn main(rt: HostRuntime) -> io::Result<()> {
+    let mut to = rt.stdout();
+    for path in env::args(&rt)?.skip(1) {
+        show(&rt, &mut to, path.as_str())?;
     }
+    Ok(())
 }

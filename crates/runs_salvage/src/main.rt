@@ -2,42 +2,39 @@
 // joining program prints for the pile that it wrote.
 #![tactic(auto)]
 
-fn salvage_and_join(pile: &mut [u8]) {
+use std::fs::File;
+use std::io::{Read, Write};
+use std::rt::Files;
+use std::{env, io};
+
+fn salvage_and_join(to: &mut impl Write, pile: &mut [u8]) -> io::Result<()> {
     let mut report = [0u8; 2444];
     let written = salvaged_text::salvaged_text(pile, &mut report);
     let bytes = written.bytes;
     let text = written.text;
-    io::write_all(1, &report[..text]);
+    to.write_all(&report[..text])?;
     if 0 < bytes {
         let mut out = [0u8; 128];
         let count = joined_line::joined_line(&pile[..bytes], &mut out);
-        io::write_all(1, &out[..count]);
+        to.write_all(&out[..count])?;
     }
+    Ok(())
 }
 
-fn show(k: usize) {
-    let mut path = io::buffer();
-    let n = os::arg(k, &mut path);
-    if os::errno() != 0 {
-        os::fail(b"argument");
-        return;
-    }
-    let file = os::open_read(&path[..n]);
-    if file < 0 {
-        io::write_all(1, b"no such file\n");
-        return;
-    }
-    let mut pile = [0u8; 65537];
-    let size = io::read_full(file, &mut pile);
-    libc::close(file);
-    io::write_all(1, &path[..n]);
-    io::write_all(1, b": ");
-    salvage_and_join(&mut pile[..size]);
+fn show(rt: &(impl Files + Alloc), to: &mut impl Write, path: &str) -> io::Result<()> {
+    let Ok(file) = File::open(rt, path) else {
+        return to.write_all(b"no such file\n");
+    };
+    let mut pile = Vec::new(rt.alloc());
+    file.take(65537).read_to_end(&mut pile)?;
+    write!(to, "{path}: ")?;
+    salvage_and_join(to, &mut pile)
 }
 
-fn main() {
-    let end = os::arg_count();
-    for k in 1..end {
-        show(k);
+fn main(rt: HostRuntime) -> io::Result<()> {
+    let mut to = rt.stdout();
+    for path in env::args(&rt)?.skip(1) {
+        show(&rt, &mut to, path.as_str())?;
     }
+    Ok(())
 }

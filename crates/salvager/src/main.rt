@@ -2,13 +2,16 @@
 // report to standard error. Of a pile that is refused only the refusal is written, to standard error.
 #![tactic(auto)]
 
-fn main() {
-    let mut pile = [0u8; 65537];
-    let size = io::read_full(0, &mut pile);
+use std::io;
+use std::io::{Read, Write};
+
+fn main(rt: HostRuntime) -> io::Result<()> {
+    let mut pile = Vec::new(rt.alloc());
+    rt.reader().take(65537).read_to_end(&mut pile)?;
     let mut out = [0u8; 2444];
-    let report = salvaged_text::salvaged_text(&mut pile[..size], &mut out);
+    let report = salvaged_text::salvaged_text(&mut pile, &mut out);
     let bytes = report.bytes;
     let text = report.text;
-    io::write_all(1, &pile[..bytes]);
-    io::write_all(2, &out[..text]);
+    rt.stdout().write_all(&pile[..bytes])?;
+    rt.stderr().write_all(&out[..text])
 }
