@@ -44,7 +44,7 @@ returns-then-alike c = let mixed : List Line = other_deal c.args.o c.args.block.
     let past_one : Left (mixed) =
     past_open ∙ goes_on (one_lines c.args.block.now 1) c.check_one.ensures (mixed) (done 0) c.in_default-check_one.is in
     let g = c.args in
-    not_mixed g.o g.block.now (ap (λ (x : Opening). alike x g.o) (sym c.Opening-of.ensures) ∙ sym c.alike.ensures ∙ c.if-alike.true)
+    not_mixed g.o g.block.now (ap (λ (x : Opening). alike x g.o) (sym c.opening_of-new.ensures) ∙ sym c.alike.ensures ∙ c.if-alike.true)
     ∙ sym (past_one)
 
 pub returns : goal.returns
@@ -58,5 +58,5 @@ returns c = let mixed : List Line = other_deal c.args.o c.args.block.now ∷ [] 
     past_open ∙ goes_on (one_lines c.args.block.now 1) c.check_one.ensures (mixed) (done 0) c.in_default-check_one.is in
     let g = c.args in
     c.refuse.ensures
-    ∙ is-mixed g.o g.block.now (ap (λ (x : Opening). alike x g.o) (sym c.Opening-of.ensures) ∙ sym c.alike.ensures ∙ c.if-alike.false)
+    ∙ is-mixed g.o g.block.now (ap (λ (x : Opening). alike x g.o) (sym c.opening_of-new.ensures) ∙ sym c.alike.ensures ∙ c.if-alike.false)
     ∙ sym (past_one)

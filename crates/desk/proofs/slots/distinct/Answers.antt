@@ -10,6 +10,7 @@ use Rattle.lists.proofs.ThoseLaws.{those-few}
 use Rattle.desk.specs.Slots.{keeps_at, keeps, distinct}
 use Rattle.desk.proofs.KeepLaws.{turn_kept, turn_lacking}
 use Rattle.desk.proofs.slots.distinct.Goals as goal
+use Rattle.desk.proofs.slots.distinct.Goals.{then-keeps, else-keeps}
 
 pub loop-j-init : goal.loop-j-init
 unfolding those
@@ -33,10 +34,10 @@ loop-j-preserved c =
       omega arith,
       v.1,
       v.2,
-      ⊎_elim
-          (λ x. x.1 ∙ turn_kept g.slots.now g.client g.o.width c.loop-j.j c.loop-j.found v.3 (at ∙ x.0.taken))
-          (λ x. x.1 ∙ turn_lacking g.slots.now g.client g.o.width c.loop-j.j c.loop-j.found v.3 (at ∙ x.0.left))
-          c.if-keeps.branch,
+      elim c.if-keeps.branch [
+        then-keeps w ↦ w.found-is ∙ turn_kept g.slots.now g.client g.o.width c.loop-j.j c.loop-j.found v.3 (at ∙ w.if-keeps.true)
+      | else-keeps w ↦ w.found-is ∙ turn_lacking g.slots.now g.client g.o.width c.loop-j.j c.loop-j.found v.3 (at ∙ w.if-keeps.false)
+      ],
     )
 
 pub returns : goal.returns

@@ -17,13 +17,13 @@ use Rattle.desk.proofs.slots.secret_word.Goals as goal
 
 pub slice_bounds-join_word-end-2 : goal.slice_bounds-join_word-end-2
 slice_bounds-join_word-end-2 c =
-    column-counts c.args.slots.now c.args.values.now c.write_column.new.1.1.1.1.0 c.args.client c.args.o.pieces c.args.i c.write_column.ensures
+    column-counts c.args.slots.now c.args.values.now c.write_column.new.values c.args.client c.args.o.pieces c.args.i c.write_column.ensures
 
 pub join_word-requires : goal.join_word-requires
-join_word-requires c = let front : take c.args.o.pieces c.write_column.new.1.1.1.1.0 ≡ column (value_in c.args.slots.now c.args.client) c.args.o.pieces c.args.i =
-    column-front c.args.slots.now c.args.values.now c.write_column.new.1.1.1.1.0 c.args.client c.args.o.pieces c.args.i c.write_column.ensures in
+join_word-requires c = let front : take c.args.o.pieces c.write_column.new.values ≡ column (value_in c.args.slots.now c.args.client) c.args.o.pieces c.args.i =
+    column-front c.args.slots.now c.args.values.now c.write_column.new.values c.args.client c.args.o.pieces c.args.i c.write_column.ensures in
     let k = c.args.o.pieces in
-    let lent = take k c.write_column.new.1.1.1.1.0 in
+    let lent = take k c.write_column.new.values in
     let e : lent ≡ column (value_in c.args.slots.now c.args.client) k c.args.i = front in
     let n : length lent ≡ k = ap length e ∙ column-length (value_in c.args.slots.now c.args.client) k c.args.i in record {
       pieces_len_bound = omega (arith, n, c.requires.pieces_bound.0);
@@ -33,6 +33,6 @@ join_word-requires c = let front : take c.args.o.pieces c.write_column.new.1.1.1
     }
 
 pub returns : goal.returns
-returns c = let front : take c.args.o.pieces c.write_column.new.1.1.1.1.0 ≡ column (value_in c.args.slots.now c.args.client) c.args.o.pieces c.args.i =
-    column-front c.args.slots.now c.args.values.now c.write_column.new.1.1.1.1.0 c.args.client c.args.o.pieces c.args.i c.write_column.ensures in
+returns c = let front : take c.args.o.pieces c.write_column.new.values ≡ column (value_in c.args.slots.now c.args.client) c.args.o.pieces c.args.i =
+    column-front c.args.slots.now c.args.values.now c.write_column.new.values c.args.client c.args.o.pieces c.args.i c.write_column.ensures in
     record { says = c.join_word.ensures ∙ ap joined (front); leaves = c.write_column.ensures }

@@ -20,7 +20,7 @@ word-old-requires c = let block : List ℕ = c.args.b.now in
 pub value_for-v-requires : goal.value_for-v-requires
 value_for-v-requires c = let block : List ℕ = c.args.b.now in
     let the : One (block) c.sole_dirty-i.result = the_one (block) c.sole_dirty-i.result c.sole_dirty-i.ensures c.if-i-eq0.false in
-    let o = the in (c.requires, ((o.from, o.to), o.clean))
+    let o = the in record { in_bounds = c.requires; le_i = (o.from, o.to); clean_but = o.clean }
 
 pub put_word-requires : goal.put_word-requires
 put_word-requires c = let block : List ℕ = c.args.b.now in

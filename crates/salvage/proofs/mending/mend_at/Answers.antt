@@ -9,4 +9,4 @@ pub returns : goal.returns
 returns c =
     let a = c.args in
     let m = c.mend in
-    (m.ensures.0 ∙ ap rebuilt (part_rest a.pile.now a.at), part_mended a.pile.now m.new.0 a.at m.ensures.1)
+    (m.ensures.0 ∙ ap rebuilt (part_rest a.pile.now a.at), part_mended a.pile.now m.new.b a.at m.ensures.1)

@@ -1,0 +1,14 @@
+-- `desk::close` meets its contract: the two parts of the state, as the two calls left them, are the state that was meant. Assumes nothing.
+use mathlib.Core.Path.{ap₂, ◌∙◌}
+use mathlib.Core.List.{List}
+use Prim.Native.Nat.{ℕ}
+use Rattle.desk.specs.declared.Clients.{Clients}
+use Rattle.desk.specs.declared.Desk.{Desk}
+use Rattle.desk.proofs.PartLaws.{close_parts}
+use Rattle.desk.proofs.close.Goals as goal
+
+pub returns : goal.returns
+returns c =
+    let d = c.args.d.now in
+    let made : Clients → List ℕ → Desk = λ k l. record { slots = l; clients = k } in
+    (c.closed.ensures.0, ap₂ made c.forgotten-after.ensures c.closed.ensures.1 ∙ close_parts d c.args.client)
