@@ -1,0 +1,24 @@
+-- `dealing::card::write_piece` meets its contract: the values are those of piece j, and the block that is built of them is written.
+-- Assumes nothing.
+use Prim.Native.Nat.{ℕ}
+use mathlib.Core.Path.{sym, ap, ◌∙◌}
+use mathlib.Core.List.{List, ◌++◌}
+use native.Mathlib.Omega.{arith}
+use lib.ListN.{take, drop}
+use lib.Seq.{length-take-le}
+use Rattle.lists.specs.Over.{over}
+use Rattle.dealing.proofs.CardLaws.{ready_builds, block-is}
+use Rattle.dealing.proofs.card.write_piece.Goals as goal
+
+pub slice_bounds-write_at-end : goal.slice_bounds-write_at-end
+slice_bounds-write_at-end c = sym (length-take-le _ c.values_of-made.result (omega arith))
+
+pub write_at-requires : goal.write_at-requires
+write_at-requires c =
+    record { at_in_bounds = c.requires.at_in_bounds; buildable = ready_builds c.requires.ready c.args.j _ c.requires.le_j.0 c.requires.le_j.1 c.values_of-made.ensures }
+
+pub returns : goal.returns
+returns c =
+    c.write_at.ensures
+    ∙ ap (λ (b : List ℕ). take c.args.at c.args.out.now ++ over b (drop c.args.at c.args.out.now))
+    (block-is c.args.asked c.args.k c.args.secret.now c.args.random.now c.args.j _ c.values_of-made.ensures)
