@@ -1,5 +1,5 @@
-//! Links the proved library, target/staticlib/libtitmeadow.a, which `rt staticlib titmeadow` writes; on a machine that is not x86-64, which
-//! the library is for, it compiles a program around the library instead (served.c), and tells src/unit/served.rs where it is.
+//! Links the proved library, target/staticlib/libtitmeadow.a, which `tools/archive` makes; on a machine that is not x86-64, which the library
+//! is for, it compiles a program around the library instead (served.c), and tells src/unit/served.rs where it is.
 use std::path::{Path, PathBuf};
 use std::process::Command;
 
@@ -12,7 +12,7 @@ fn main() {
     let top = Path::new(env!("CARGO_MANIFEST_DIR")).parent().unwrap();
     let library = top.join("target/staticlib/libtitmeadow.a");
     if !library.exists() {
-        ran("rt", top, &["staticlib", "titmeadow"]);
+        ran(top.join("tools/archive"), top, &[]);
     }
     println!("cargo:rerun-if-changed={}", library.display());
     if std::env::var("CARGO_CFG_TARGET_ARCH").unwrap() == "x86_64" {

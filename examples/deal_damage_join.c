@@ -1,7 +1,7 @@
 /* Deals to four custodians, damages a card and joins: what the unit does with a good pile, a short one, a dirty one and a torn one. Salvages the
  * dirty one, and renews the cards. Then splits a key among the four and restores it; and serves two clients at one desk, one with the code and one
  * with the key.
- *   rt staticlib titmeadow && cc -I include examples/deal_damage_join.c target/staticlib/libtitmeadow.a -o target/example && target/example
+ *   tools/archive && cc -I include examples/deal_damage_join.c target/staticlib/libtitmeadow.a -o target/example && target/example
  * It prints its twenty-six answers and ends with status 0 where they are those that SCOPE gives. */
 #include <stdio.h>
 #include <string.h>

@@ -1,6 +1,6 @@
 /* Four pairs of eight people may open, each by itself: few sets and many pieces. Deals a code to all eight by either scheme, compares what their cards take,
  * and joins cards by sets; then what such cards are not for.
- *   rt staticlib titmeadow && cc -I include examples/few_sets.c target/staticlib/libtitmeadow.a -o target/example && target/example
+ *   tools/archive && cc -I include examples/few_sets.c target/staticlib/libtitmeadow.a -o target/example && target/example
  * It prints its answers and ends with status 0 where they are those that SCOPE gives. */
 #include <stdio.h>
 #include <string.h>

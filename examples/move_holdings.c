@@ -1,6 +1,6 @@
 /* A customer moves over from another maker, with five custodians and a list of who has which pieces. Holds the list against the policy that the customer
  * wrote down, until the two say the same; then plans our own holdings by that policy, deals, and joins.
- *   rt staticlib titmeadow && cc -I include examples/move_holdings.c target/staticlib/libtitmeadow.a -o target/example && target/example
+ *   tools/archive && cc -I include examples/move_holdings.c target/staticlib/libtitmeadow.a -o target/example && target/example
  * It prints its nine answers and ends with status 0 where they are those that SCOPE gives. */
 #include <stdio.h>
 #include "titmeadow.h"

@@ -1,5 +1,5 @@
 /* Titmeadow: planning, dealing, joining and renewing cards for the vault unit, a desk for two clients, and judging another maker's holdings. Link
- * target/staticlib/libtitmeadow.a (rt staticlib titmeadow).
+ * target/staticlib/libtitmeadow.a (tools/archive).
  *
  * Whatever a call is given, it ends in its result or in a refusal, which has a number and the places a and b. A place is counted from
  * 1, and 0 where none is named. After a refusal, all that was lent is as before; a result writes only what is said here.

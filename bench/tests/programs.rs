@@ -1,4 +1,4 @@
-//! The programs, target/bin/list, join and salvager, against the independent implementation, byte for byte: random policy texts with damaged
+//! The programs list, join and salvager, as rt leaves them in out/ of their crates, against the independent implementation, byte for byte: random policy texts with damaged
 //! lines, random piles, and scratched ones.
 use bench::inputs;
 use bench::numbers::Numbers;
@@ -11,7 +11,7 @@ use std::process::{Command, Stdio};
 /// What a program writes to standard output and to standard error.
 fn run(name: &str, input: &[u8]) -> (Vec<u8>, Vec<u8>) {
     let top = Path::new(env!("CARGO_MANIFEST_DIR")).parent().unwrap();
-    let program = top.join("target/bin").join(name);
+    let program = top.join("crates").join(name).join("out").join(name);
     let mut running = Command::new(top.join("tools/x86-64"))
         .arg("run")
         .arg(&program)
@@ -19,7 +19,7 @@ fn run(name: &str, input: &[u8]) -> (Vec<u8>, Vec<u8>) {
         .stdout(Stdio::piped())
         .stderr(Stdio::piped())
         .spawn()
-        .unwrap_or_else(|e| panic!("{}: {e}; rt check {name} builds it", program.display()));
+        .unwrap_or_else(|e| panic!("{}: {e}; rt run in crates/{name} builds it", program.display()));
     // a program that has read enough closes its input
     running.stdin.take().unwrap().write_all(input).ok();
     let ended = running.wait_with_output().unwrap();
