@@ -1,0 +1,9 @@
+-- `runs_desk::show::filled` is safe and ends. The invariant: no more were found than were looked at. Assumes nothing.
+use Prim.Native.Nat.{◌-◌, ◌≤◌}
+use Rattle.runs_desk.proofs.show.filled.Given as goal
+
+abbrev pub invariant-loop-found : goal.invariant-loop-found
+invariant-loop-found l = (l.found ≤ l.i) × (l.i ≤ 1190)
+
+abbrev pub decreases-loop-found : goal.decreases-loop-found
+decreases-loop-found l = 1190 - l.i
