@@ -9,7 +9,7 @@ use Rattle.salvaged_text.specs.Salvaged.{place_line}
 use Rattle.salvaged_text.proofs.write_places.Given as goal
 
 abbrev pub invariant-loop-j : goal.invariant-loop-j
-invariant-loop-j l = (j ≤ l.n) × Writes (rising (place_line l.list) j) l.at l.initial.out l.j p × (length l.j ≡ length l.initial.out)
+invariant-loop-j l = (l.j ≤ l.n) × Writes (rising (place_line l.list) l.j) l.at l.initial.out l.out l.p × (length l.out ≡ length l.initial.out)
 
 abbrev pub decreases-loop-j : goal.decreases-loop-j
-decreases-loop-j l = l.n - j
+decreases-loop-j l = l.n - l.j

@@ -1,0 +1,37 @@
+-- `key::join_key` meets its contract: a pile that joins is unpacked, and any other is refused as joining refuses it. Assumes nothing.
+use mathlib.Core.Path.{◌≡◌, sym, ap, ◌∙◌}
+use mathlib.Core.List.{List}
+use Prim.Native.Nat.{ℕ}
+use lib.ListN.{length, replicate}
+use Rattle.answer.specs.Outcome.{outcome, done, refused, number}
+use Rattle.packing.specs.Key.{unpacking, unpacked_into}
+use Rattle.joining.specs.Joined.{joining, joined_into}
+use Rattle.joining.proofs.SixteenLaws.{secret-front, secret-fits, secret-counts}
+use Rattle.key.proofs.KeyLaws.{key_unpacks, key_refused, key_left, left-unpacked}
+use Rattle.key.proofs.join_key.Goals as goal
+
+pub slice_bounds-words-end : goal.slice_bounds-words-end
+slice_bounds-words-end c = let pile : List ℕ = c.args.pile.now in
+    let joins : joining (pile) 16 ≡ done c.in-Done.w = sym c.join.ensures.says ∙ ap outcome c.in-Done.is in
+    let lent : c.join.new.out ≡ joined_into (pile) (replicate 16 0) = c.join.ensures.leaves in
+    secret-fits (pile) c.in-Done.w _ (joins) (lent)
+
+pub slice_bounds-unpack-end : goal.slice_bounds-unpack-end
+slice_bounds-unpack-end c = let pile : List ℕ = c.args.pile.now in
+    let joins : joining (pile) 16 ≡ done c.in-Done.w = sym c.join.ensures.says ∙ ap outcome c.in-Done.is in
+    let lent : c.join.new.out ≡ joined_into (pile) (replicate 16 0) = c.join.ensures.leaves in
+    secret-counts (pile) c.in-Done.w _ (joins) (lent)
+
+pub returns-in-Refused : goal.returns-in-Refused
+returns-in-Refused c =
+    let r = c.in-Refused.r in
+    let e = key_refused c.args.pile.now (length c.args.out.now) _ _ _ (sym c.join.ensures.says ∙ ap outcome c.in-Refused.is) in
+    record { says = sym e; leaves = sym (key_left c.args.pile.now c.args.out.now (refused (number r.kind) r.a r.b) e) }
+
+pub returns-in-Done : goal.returns-in-Done
+returns-in-Done c = let pile : List ℕ = c.args.pile.now in
+    let joins : joining (pile) 16 ≡ done c.in-Done.w = sym c.join.ensures.says ∙ ap outcome c.in-Done.is in
+    let lent : c.join.new.out ≡ joined_into (pile) (replicate 16 0) = c.join.ensures.leaves in
+    let out = c.args.out.now in
+    let w = c.in-Done.w in
+    let front = secret-front (pile) w _ (joins) (lent) in record { says = c.unpack.ensures.says ∙ ap (λ (s : List ℕ). unpacking s (length out)) front ∙ sym (key_unpacks (pile) w (length out) (joins)); leaves = c.unpack.ensures.leaves ∙ ap (λ (s : List ℕ). unpacked_into s out) front ∙ sym (left-unpacked (pile) w out (joins)) }
