@@ -2,8 +2,8 @@
 use Prim.Native.Nat.{◌-◌, ◌≤◌}
 use Rattle.runs_desk.proofs.show.filled.Given as goal
 
-abbrev pub invariant-loop-found : goal.invariant-loop-found
-invariant-loop-found l = (l.found ≤ l.i) × (l.i ≤ 1190)
+abbrev pub invariant-loop-i : goal.invariant-loop-i
+invariant-loop-i l = (l.found ≤ l.i) × (l.i ≤ 1190)
 
-abbrev pub decreases-loop-found : goal.decreases-loop-found
-decreases-loop-found l = 1190 - l.i
+abbrev pub decreases-loop-i : goal.decreases-loop-i
+decreases-loop-i l = 1190 - l.i
