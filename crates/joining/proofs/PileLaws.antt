@@ -81,6 +81,13 @@ module _ {pile : List ℕ} (u : Unmixed pile) where
   pub set_in : (a : ℕ) → In pile a → set_at pile a ≤ 70
   set_in a h = set-range (label_of (rest_from pile a)) (ranges a h).scheme
 
+  -- and so has what was read of them
+  pub piece_read : (a : ℕ) → In pile a → {r : ℕ} → r ≡ piece_at pile a → (1 ≤ r) × (r ≤ 560)
+  piece_read a h e = let q = piece_in_lem a h in (omega (arith, q.0, e), omega (arith, q.1, e))
+
+  pub set_read : (a : ℕ) → In pile a → {s : ℕ} → s ≡ set_at pile a → s ≤ 70
+  set_read a h e = omega (arith, set_in a h, e)
+
   -- ---- the first scheme
   module _ (e : in_sets pile ≡ false) where
     pub no_set_lem : (a : ℕ) → In pile a → set_at pile a ≡ 0

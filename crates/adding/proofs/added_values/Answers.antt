@@ -1,6 +1,6 @@
 -- `adding::added_values` meets its contract. The invariant: the first i values of the sum stand in front.
 -- Assumes nothing.
-use Prim.Native.Nat.{ℕ, ◌+◌, ◌-◌, ◌%◌}
+use Prim.Native.Nat.{ℕ, ◌+◌, ◌%◌}
 use mathlib.Core.Path.{◌≡◌, refl, ap, ap₂, ◌∙◌}
 use native.Mathlib.Omega.{arith}
 use lib.ListN.{length-set}

@@ -2,7 +2,6 @@
 -- Assumes nothing.
 use mathlib.Core.Path.{refl, sym, ap, ◌∙◌}
 use mathlib.Core.Bool.{not}
-use Prim.Native.Nat.{◌-◌}
 use native.Mathlib.Omega.{arith}
 use Rattle.lists.proofs.FirstLaws.{first_hit, first_miss, first-none}
 use Rattle.adding.specs.Sum.{differ, unlike_at}

@@ -1,6 +1,5 @@
 -- `reader::read_all` meets its contract. The invariant: the blocks after the passed ones are still to speak. Assumes nothing.
 use mathlib.Core.Path.{sym, ap, ◌∙◌}
-use Prim.Native.Nat.{◌-◌}
 use Rattle.reader.specs.Seeing.{sight}
 use Rattle.reader.proofs.ReadingLaws.{ahead_start, ahead_on, ahead_less, refused-at, ended_at}
 use Rattle.reader.proofs.read_all.Goals as goal

@@ -1,6 +1,6 @@
 -- `salvage::mend_pile` meets its contract: the first a blocks are mended, their rebuilt words counted and listed. Assumes nothing.
 use mathlib.Core.Path.{refl}
-use Prim.Native.Nat.{◌-◌, ◌≤◌}
+use Prim.Native.Nat.{◌≤◌}
 use native.Mathlib.Omega.{arith}
 use Rattle.salvage.proofs.LoopLaws.{mend_start, mend_on, mend_end, word_low}
 use Rattle.salvage.proofs.mend_pile.Goals as goal

@@ -1,7 +1,7 @@
 -- `triangle::weights` meets its contract. The invariant: the weights of the pieces before j are in their places, and 0 past them.
 -- Assumes nothing.
 use mathlib.Core.Path.{◌≡◌}
-use Prim.Native.Nat.{◌-◌, ◌<◌}
+use Prim.Native.Nat.{◌-◌}
 use native.Mathlib.Omega.{arith}
 use lib.ListN.{get_or}
 use Rattle.field.proofs.Table.{filled-start, filled_end}

@@ -4,7 +4,7 @@ use borrow.Author.Rules.{rules}
 use mathlib.Core.Path.{◌≡◌, refl, sym, ap, ◌∙◌}
 use mathlib.Core.Bool.{not}
 use mathlib.Core.List.{List}
-use Prim.Native.Nat.{ℕ, ◌+◌, ◌≤◌}
+use Prim.Native.Nat.{ℕ, ◌+◌}
 use native.Mathlib.Omega.{arith}
 use Rattle.lists.specs.Places.{first_in}
 use Rattle.lists.proofs.FirstLaws.{first_hit, first_miss}
@@ -33,33 +33,34 @@ returns-else-kept c =
     let b = c.args.b.now in
     sym (l.invariant.3 ∙ first_hit (λ k. not (right_at b k)) l.i 256 (search rules) (ap not (sym c.right-kept.ensures ∙ c.if-kept.false)))
 
+-- past the loop the first wrong word lies from word 8 on
+past : (b : List ℕ) {i : ℕ} → first_wrong b ≡ first_in (λ k. not (right_at b k)) i 256 → i ≡ 8 → first_wrong b ≡ first_in (λ k. not (right_at b k)) 8 256
+past b e q = rw q at e
+
+-- the first word from the values on that is not 0, by the w that was read
+before_year : (b : List ℕ) {r w : ℕ} → r ≡ first_in (filled b) (8 + w) 24 → w ≡ width_of b → r ≡ first_in (filled b) (8 + width_of b) 24
+before_year b e q = rw q at e
+
 pub returns-then-filled-ne0 : goal.returns-then-filled-ne0
-returns-then-filled-ne0 c = let block : List ℕ = c.args.b.now in
-    let before-year : c.first_filled-filled.result ≡ first_in (filled (block)) (8 + width_of (block)) 24 = c.first_filled-filled.ensures ∙ ap (λ (n : ℕ). first_in (filled (block)) (8 + n) 24) c.word-width.ensures in
-    let from_eight : first_wrong (block) ≡ first_in (λ k. not (right_at (block) k)) 8 256 =
-    let l = c.loop-i in
-    let e : l.i ≡ 8 = omega arith in
-    l.invariant.3 ∙ ap (λ (n : ℕ). first_in (λ k. not (right_at (block) k)) n 256) e in
-    let few : width_of (block) ≤ 16 = c.loop-i.invariant.2 (omega arith) in
-    before-year ∙ sym (from_eight ∙ wrong_before (block) (few) (λ z. c.if-filled-ne0.true (before-year ∙ z)))
+returns-then-filled-ne0 c =
+    let b = c.args.b.now in
+    let seen = before_year b c.first_filled-filled.ensures c.word-width.ensures in
+    let few = c.loop-i.invariant.2 (omega arith) in
+    seen ∙ sym (past b c.loop-i.invariant.3 (omega arith) ∙ wrong_before b few (λ z. c.if-filled-ne0.true (seen ∙ z)))
 
 pub returns-then-not-right_set : goal.returns-then-not-right_set
-returns-then-not-right_set c = let block : List ℕ = c.args.b.now in
-    let from_eight : first_wrong (block) ≡ first_in (λ k. not (right_at (block) k)) 8 256 =
-    let l = c.loop-i in
-    let e : l.i ≡ 8 = omega arith in
-    l.invariant.3 ∙ ap (λ (n : ℕ). first_in (λ k. not (right_at (block) k)) n 256) e in
-    let few : width_of (block) ≤ 16 = c.loop-i.invariant.2 (omega arith) in
-    let before-year : c.first_filled-filled.result ≡ first_in (filled (block)) (8 + width_of (block)) 24 = c.first_filled-filled.ensures ∙ ap (λ (n : ℕ). first_in (filled (block)) (8 + n) 24) c.word-width.ensures in
-    sym (from_eight ∙ wrong_set (block) (few) (sym (before-year) ∙ c.if-filled-ne0.false) (sym c.right_set.ensures ∙ c.if-not-right_set.true))
+returns-then-not-right_set c =
+    let b = c.args.b.now in
+    let seen = before_year b c.first_filled-filled.ensures c.word-width.ensures in
+    let few = c.loop-i.invariant.2 (omega arith) in
+    sym (past b c.loop-i.invariant.3 (omega arith)
+    ∙ wrong_set b few (sym seen ∙ c.if-filled-ne0.false) (sym c.right_set.ensures ∙ c.if-not-right_set.true))
 
 pub returns : goal.returns
-returns c = let block : List ℕ = c.args.b.now in
-    let from_eight : first_wrong (block) ≡ first_in (λ k. not (right_at (block) k)) 8 256 =
-    let l = c.loop-i in
-    let e : l.i ≡ 8 = omega arith in
-    l.invariant.3 ∙ ap (λ (n : ℕ). first_in (λ k. not (right_at (block) k)) n 256) e in
-    let few : width_of (block) ≤ 16 = c.loop-i.invariant.2 (omega arith) in
-    let before-year : c.first_filled-filled.result ≡ first_in (filled (block)) (8 + width_of (block)) 24 = c.first_filled-filled.ensures ∙ ap (λ (n : ℕ). first_in (filled (block)) (8 + n) 24) c.word-width.ensures in
+returns c =
+    let b = c.args.b.now in
+    let seen = before_year b c.first_filled-filled.ensures c.word-width.ensures in
+    let few = c.loop-i.invariant.2 (omega arith) in
     c.first_filled.ensures
-    ∙ sym (from_eight ∙ wrong_behind (block) (few) (sym (before-year) ∙ c.if-filled-ne0.false) (sym c.right_set.ensures ∙ c.if-not-right_set.false))
+    ∙ sym (past b c.loop-i.invariant.3 (omega arith)
+    ∙ wrong_behind b few (sym seen ∙ c.if-filled-ne0.false) (sym c.right_set.ensures ∙ c.if-not-right_set.false))

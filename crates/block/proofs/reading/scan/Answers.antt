@@ -17,12 +17,14 @@ loop-i-preserved c =
     scan_on c.loop-i.invariant c.word-v.result c.word-v.ensures (omega arith) c.if-v-gt32748.false _ c.weigh-sum.ensures.0 c.weigh-sum.ensures.1
 
 pub returns-then-last-gt32748 : goal.returns-then-last-gt32748
-returns-then-last-gt32748 c = let last : c.loop-i.i ≡ 256 = omega arith in
-    let read : c.word-last.result ≡ word_at c.args.b.now c.loop-i.i = c.word-last.ensures ∙ ap (word_at c.args.b.now) (sym (last)) in
-    let r = scan_found c.loop-i.invariant c.word-last.result (read) c.if-last-gt32748.true in
-    (sym (last) ∙ r.0, r.1)
+returns-then-last-gt32748 c =
+    let last : c.loop-i.i ≡ 256 = omega arith in
+    let read = c.word-last.ensures ∙ ap (word_at c.args.b.now) (sym last) in
+    let r = scan_found c.loop-i.invariant c.word-last.result read c.if-last-gt32748.true in
+    (sym last ∙ r.0, r.1)
 
 pub returns : goal.returns
-returns c = let last : c.loop-i.i ≡ 256 = omega arith in
-    let read : c.word-last.result ≡ word_at c.args.b.now c.loop-i.i = c.word-last.ensures ∙ ap (word_at c.args.b.now) (sym (last)) in
-    scan_end c.loop-i.invariant c.word-last.result (read) (last) c.if-last-gt32748.false
+returns c =
+    let last : c.loop-i.i ≡ 256 = omega arith in
+    let read = c.word-last.ensures ∙ ap (word_at c.args.b.now) (sym last) in
+    scan_end c.loop-i.invariant c.word-last.result read last c.if-last-gt32748.false

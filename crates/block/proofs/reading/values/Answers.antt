@@ -5,8 +5,7 @@ use Prim.Native.Nat.{ℕ, ◌+◌, ◌*◌}
 use native.Mathlib.Nat.{add-sub_cancel_left}
 use native.Mathlib.Omega.{arith}
 use lib.ListN.{take, drop}
-use Rattle.answer.specs.Outcome.{done}
-use Rattle.block.specs.Open.{opening, words_of, opened}
+use Rattle.block.specs.Open.{opened}
 use Rattle.block.proofs.ValueLaws.{values_head, refused_empty}
 use Rattle.block.proofs.reading.values.Goals as goal
 
@@ -15,14 +14,17 @@ at_offset : (b o : ℕ) {n m : ℕ} → m ≡ n → ◌≡◌ {A = ℕ × ℕ} (
 at_offset b o {n} {m} e = let f : n + o ≡ o + m = omega arith in rw f
 
 pub slice_bounds-result-end : goal.slice_bounds-result-end
-slice_bounds-result-end c = let head_at : opening c.args.pile.now ≡ done (words_of c.in-Head.h) = sym c.open.ensures ∙ ap opened c.in-Head.is in
-    omega (arith, (values_head _ _ (head_at)).0)
+slice_bounds-result-end c =
+    omega (arith, (values_head c.args.pile.now c.in-Head.h (sym c.open.ensures ∙ ap opened c.in-Head.is)).0)
 
 pub returns-in-Head : goal.returns-in-Head
-returns-in-Head c = let head_at : opening c.args.pile.now ≡ done (words_of c.in-Head.h) = sym c.open.ensures ∙ ap opened c.in-Head.is in
+returns-in-Head c =
     let p = c.args.pile in
-    let r = values_head p.now _ (head_at) in
-    record { content = ap (λ (n : ℕ). take n (drop 14 p.now)) (add-sub_cancel_left 14 (2 * c.in-Head.h.width)) ∙ r.1; place = at_offset p.ref_ptr.0 p.ref_ptr.1 r.2 }
+    let r = values_head p.now c.in-Head.h (sym c.open.ensures ∙ ap opened c.in-Head.is) in
+    record {
+      content = ap (λ (n : ℕ). take n (drop 14 p.now)) (add-sub_cancel_left 14 (2 * c.in-Head.h.width)) ∙ r.1;
+      place = at_offset p.ref_ptr.0 p.ref_ptr.1 r.2;
+    }
 
 pub returns-in-Refused : goal.returns-in-Refused
 returns-in-Refused c =

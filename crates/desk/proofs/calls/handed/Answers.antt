@@ -1,20 +1,27 @@
 -- `desk::calls::handed` meets its contract: the checks speak, and a result keeps the piece.
 -- Assumes nothing.
 use native.Mathlib.Omega.{arith}
-use mathlib.Core.Path.{sym, ap, ◌∙◌}
+use mathlib.Core.Path.{◌≡◌, sym, ap, ◌∙◌}
 use mathlib.Core.List.{List}
 use Prim.Native.Nat.{ℕ}
 use native.Mathlib.Nat.{le_of_eq}
-use Rattle.answer.specs.Outcome.{done}
+use Rattle.answer.specs.declared.Answer.{Answer}
+use Rattle.answer.specs.declared.Answer.TheVariants.{Done}
+use Rattle.answer.specs.Outcome.{outcome, done}
+use Rattle.answer.proofs.SaysLaws.{said}
 use Rattle.desk.specs.declared.Opening.{Opening}
 use Rattle.desk.specs.Opens.{words_in}
 use Rattle.desk.specs.Slots.{start, over_at, kept, distinct}
-use Rattle.desk.specs.Lines.{hand_slots, hand_says}
+use Rattle.desk.specs.Lines.{hand_lines, hand_slots, hand_says}
 use Rattle.desk.proofs.WordLaws.{ranged}
 use Rattle.desk.proofs.SaysLaws.{Front, front-piece, hand_passed}
 use Rattle.desk.proofs.ChainLaws.{hand_stops, hand_goes}
 use Rattle.desk.proofs.NextLaws.{by_done, by_refused}
 use Rattle.desk.proofs.calls.handed.Goals as goal
+
+-- what is known past the checks
+front : (slots : List ℕ) (o : Opening) (c : ℕ) (b : List ℕ) {x : Answer} {u : ℕ} → outcome x ≡ said (hand_lines slots o c b) → x ≡ Done u → Front o c b
+front slots o c b e q = (hand_passed slots o c b _ (hand_goes slots o c b e q)).front
 
 pub returns-in-Refused : goal.returns-in-Refused
 returns-in-Refused c =
@@ -25,37 +32,29 @@ returns-in-Refused c =
     (says, sym (by_refused (hand_says g.slots.now o g.client g.block.now) (hand_slots g.slots.now o g.client g.block.now) g.slots.now _ _ _ (sym says)))
 
 pub word-requires : goal.word-requires
-word-requires c = let front : Front c.words_of-o.result c.args.client c.args.block.now =
+word-requires c =
     let g = c.args in
-    (hand_passed g.slots.now c.words_of-o.result g.client g.block.now _
-    (hand_goes g.slots.now c.words_of-o.result g.client g.block.now c.check_hand.ensures c.in_default.is)).front in
-    (omega arith, omega (arith, (front).long))
+    let f = front g.slots.now c.words_of-o.result g.client g.block.now c.check_hand.ensures c.in_default.is in
+    (omega arith, omega (arith, f.long))
 
 pub start-at-requires : goal.start-at-requires
-start-at-requires c = let front : Front c.words_of-o.result c.args.client c.args.block.now =
+start-at-requires c =
     let g = c.args in
-    (hand_passed g.slots.now c.words_of-o.result g.client g.block.now _
-    (hand_goes g.slots.now c.words_of-o.result g.client g.block.now c.check_hand.ensures c.in_default.is)).front in
-    let f = front in
-    let g = c.args in
+    let f = front g.slots.now c.words_of-o.result g.client g.block.now c.check_hand.ensures c.in_default.is in
     let o = c.words_of-o.result in
     let r = front-piece o g.client g.block.now f in
     (omega (arith, c.word.ensures, r.0), omega (arith, c.word.ensures, r.1, (ranged o f.opened).pieces.1))
 
 pub put_piece-requires : goal.put_piece-requires
-put_piece-requires c = let front : Front c.words_of-o.result c.args.client c.args.block.now =
+put_piece-requires c =
     let g = c.args in
-    (hand_passed g.slots.now c.words_of-o.result g.client g.block.now _
-    (hand_goes g.slots.now c.words_of-o.result g.client g.block.now c.check_hand.ensures c.in_default.is)).front in
-    let f = front in
+    let f = front g.slots.now c.words_of-o.result g.client g.block.now c.check_hand.ensures c.in_default.is in
     record { at_in_bounds = (omega (arith, c.start-at.ensures.1), (ranged c.words_of-o.result f.opened).width.1); in_bounds = le_of_eq (sym f.long) }
 
 pub distinct-n-requires : goal.distinct-n-requires
-distinct-n-requires c = let front : Front c.words_of-o.result c.args.client c.args.block.now =
+distinct-n-requires c =
     let g = c.args in
-    (hand_passed g.slots.now c.words_of-o.result g.client g.block.now _
-    (hand_goes g.slots.now c.words_of-o.result g.client g.block.now c.check_hand.ensures c.in_default.is)).front in
-    let f = front in
+    let f = front g.slots.now c.words_of-o.result g.client g.block.now c.check_hand.ensures c.in_default.is in
     let o = c.words_of-o.result in
     ((ranged o f.opened).pieces.1, (ranged o f.opened).width.1)
 

@@ -1,8 +1,11 @@
 -- `desk::checks::check_front` meets its contract: a callee that refuses speaks, and else the lines after its own.
 -- Assumes nothing.
 use mathlib.Core.Path.{◌≡◌, sym, ap, ◌∙◌}
+use Prim.Native.Nat.{ℕ}
 use mathlib.Core.List.{List, [], ◌∷◌, ◌++◌}
 use native.Mathlib.Nat.{le_of_eq}
+use Rattle.answer.specs.declared.Answer.{Answer}
+use Rattle.answer.specs.declared.Answer.TheVariants.{Done}
 use Rattle.answer.specs.Outcome.{outcome, done}
 use Rattle.answer.specs.Checks.{Line}
 use Rattle.answer.proofs.SaysLaws.{said}
@@ -15,48 +18,53 @@ use Rattle.desk.specs.Lines.{other_deal, front_lines, close_lines}
 use Rattle.desk.proofs.ChainLaws.{is-mixed, not_mixed}
 use Rattle.desk.proofs.checks.check_front.Goals as goal
 
+-- the lines after CLOSED
+abbrev mixed : Opening → List ℕ → List Line
+mixed o b = other_deal o b ∷ []
+
+abbrev from_torn : Opening → List ℕ → List Line
+from_torn o b = one_lines b 1 ++ mixed o b
+
+module _ (o : Opening) (c : ℕ) (b : List ℕ) where
+  -- what is answered, where these lines are left
+  abbrev Left : List Line → Type 0
+  Left ls = said (front_lines o c b) ≡ said ls
+
+  left1 : {x : Answer} {u : ℕ} → outcome x ≡ said (close_lines o c) → x ≡ Done u → Left (from_torn o b)
+  unfolding front_lines close_lines
+  left1 e q = goes_on (close_lines o c) e (from_torn o b) (done 0) q
+
+  left2 : {x : Answer} {u : ℕ} → Left (from_torn o b) → outcome x ≡ said (one_lines b 1) → x ≡ Done u → Left (mixed o b)
+  left2 l e q = l ∙ goes_on (one_lines b 1) e (mixed o b) (done 0) q
+
 pub returns-in-Refused : goal.returns-in-Refused
 unfolding front_lines close_lines
-returns-in-Refused c = let mixed : List Line = other_deal c.args.o c.args.block.now ∷ [] in
-    let fromTorn : List Line = one_lines c.args.block.now 1 ++ mixed in
-    stops (close_lines c.args.o c.args.client) c.check_open.ensures (fromTorn) (done 0) c.in-Refused.is
+returns-in-Refused c =
+    let g = c.args in
+    stops (close_lines g.o g.client) c.check_open.ensures (from_torn g.o g.block.now) (done 0) c.in-Refused.is
 
 pub returns-in-Refused-check_one : goal.returns-in-Refused-check_one
-unfolding front_lines close_lines
-returns-in-Refused-check_one c = let mixed : List Line = other_deal c.args.o c.args.block.now ∷ [] in
-    let fromTorn : List Line = one_lines c.args.block.now 1 ++ mixed in
-    let Left : List Line → Type 0 = λ ls. said (front_lines c.args.o c.args.client c.args.block.now) ≡ said ls in
-    let past_open : Left (fromTorn) =
-    goes_on (close_lines c.args.o c.args.client) c.check_open.ensures (fromTorn) (done 0) c.in_default.is in
-    stops (one_lines c.args.block.now 1) c.check_one.ensures (mixed) (done 0) c.in-Refused-check_one.is ∙ sym (past_open)
+returns-in-Refused-check_one c =
+    let g = c.args in
+    let l1 = left1 g.o g.client g.block.now c.check_open.ensures c.in_default.is in
+    stops (one_lines g.block.now 1) c.check_one.ensures (mixed g.o g.block.now) (done 0) c.in-Refused-check_one.is ∙ sym l1
 
 pub opening_of-new-requires : goal.opening_of-new-requires
 opening_of-new-requires c =
     le_of_eq (sym (one_true c.args.block.now 1 (done-passed (one_lines c.args.block.now 1) (done 0) _ (sym c.check_one.ensures ∙ ap outcome c.in_default-check_one.is)).0).0)
 
 pub returns-then-alike : goal.returns-then-alike
-unfolding front_lines close_lines
-returns-then-alike c = let mixed : List Line = other_deal c.args.o c.args.block.now ∷ [] in
-    let fromTorn : List Line = one_lines c.args.block.now 1 ++ mixed in
-    let Left : List Line → Type 0 = λ ls. said (front_lines c.args.o c.args.client c.args.block.now) ≡ said ls in
-    let past_open : Left (fromTorn) =
-    goes_on (close_lines c.args.o c.args.client) c.check_open.ensures (fromTorn) (done 0) c.in_default.is in
-    let past_one : Left (mixed) =
-    past_open ∙ goes_on (one_lines c.args.block.now 1) c.check_one.ensures (mixed) (done 0) c.in_default-check_one.is in
+returns-then-alike c =
     let g = c.args in
-    not_mixed g.o g.block.now (ap (λ (x : Opening). alike x g.o) (sym c.opening_of-new.ensures) ∙ sym c.alike.ensures ∙ c.if-alike.true)
-    ∙ sym (past_one)
+    let l1 = left1 g.o g.client g.block.now c.check_open.ensures c.in_default.is in
+    let l2 = left2 g.o g.client g.block.now l1 c.check_one.ensures c.in_default-check_one.is in
+    let alike_is = ap (λ (x : Opening). alike x g.o) (sym c.opening_of-new.ensures) ∙ sym c.alike.ensures in
+    not_mixed g.o g.block.now (alike_is ∙ c.if-alike.true) ∙ sym l2
 
 pub returns : goal.returns
-unfolding front_lines close_lines
-returns c = let mixed : List Line = other_deal c.args.o c.args.block.now ∷ [] in
-    let fromTorn : List Line = one_lines c.args.block.now 1 ++ mixed in
-    let Left : List Line → Type 0 = λ ls. said (front_lines c.args.o c.args.client c.args.block.now) ≡ said ls in
-    let past_open : Left (fromTorn) =
-    goes_on (close_lines c.args.o c.args.client) c.check_open.ensures (fromTorn) (done 0) c.in_default.is in
-    let past_one : Left (mixed) =
-    past_open ∙ goes_on (one_lines c.args.block.now 1) c.check_one.ensures (mixed) (done 0) c.in_default-check_one.is in
+returns c =
     let g = c.args in
-    c.refuse.ensures
-    ∙ is-mixed g.o g.block.now (ap (λ (x : Opening). alike x g.o) (sym c.opening_of-new.ensures) ∙ sym c.alike.ensures ∙ c.if-alike.false)
-    ∙ sym (past_one)
+    let l1 = left1 g.o g.client g.block.now c.check_open.ensures c.in_default.is in
+    let l2 = left2 g.o g.client g.block.now l1 c.check_one.ensures c.in_default-check_one.is in
+    let alike_is = ap (λ (x : Opening). alike x g.o) (sym c.opening_of-new.ensures) ∙ sym c.alike.ensures in
+    c.refuse.ensures ∙ is-mixed g.o g.block.now (alike_is ∙ c.if-alike.false) ∙ sym l2

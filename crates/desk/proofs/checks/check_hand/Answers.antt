@@ -2,18 +2,27 @@
 -- Assumes nothing.
 use native.Mathlib.Omega.{arith}
 use mathlib.Core.Path.{◌≡◌, sym, ap, ◌∙◌}
-use mathlib.Core.List.{[], ◌∷◌}
+use mathlib.Core.List.{List, [], ◌∷◌}
+use Prim.Native.Nat.{ℕ}
 use Rattle.answer.proofs.SaysLaws.{said}
 use native.Mathlib.Nat.{le_of_eq}
-use Rattle.answer.specs.Outcome.{done}
+use Rattle.answer.specs.declared.Answer.{Answer}
+use Rattle.answer.specs.declared.Answer.TheVariants.{Done}
+use Rattle.answer.specs.Outcome.{outcome, done}
 use Rattle.answer.proofs.CheckLaws.{stops, goes_on}
-use Rattle.block.specs.Layout.{piece_number}
+use Rattle.desk.specs.declared.Opening.{Opening}
 use Rattle.desk.specs.Slots.{start}
 use Rattle.desk.specs.Lines.{other_values, front_lines, hand_lines}
 use Rattle.desk.proofs.WordLaws.{ranged}
-use Rattle.desk.proofs.SaysLaws.{Front, front-piece}
+use Rattle.desk.proofs.SaysLaws.{front-piece}
 use Rattle.desk.proofs.ChainLaws.{past_front, is-conflict, not_other, not_kept}
 use Rattle.desk.proofs.checks.check_hand.Goals as goal
+
+-- past the lines before it, CONFLICT alone is left
+past : (slots : List ℕ) (o : Opening) (c : ℕ) (b : List ℕ) {x : Answer} {u : ℕ}
+    → outcome x ≡ said (front_lines o c b) → x ≡ Done u → said (hand_lines slots o c b) ≡ said (other_values slots o c b ∷ [])
+unfolding hand_lines
+past slots o c b e q = goes_on (front_lines o c b) e (other_values slots o c b ∷ []) (done 0) q
 
 pub returns-in-Refused : goal.returns-in-Refused
 unfolding hand_lines
@@ -22,59 +31,49 @@ returns-in-Refused c =
     stops (front_lines g.o g.client g.block.now) c.check_front.ensures (other_values g.slots.now g.o g.client g.block.now ∷ []) (done 0) c.in-Refused.is
 
 pub word-requires : goal.word-requires
-word-requires c = let front : Front c.args.o c.args.client c.args.block.now =
+word-requires c =
     let g = c.args in
-    past_front g.o g.client g.block.now c.check_front.ensures c.in_default.is in
-    (omega arith, omega (arith, (front).long))
+    let f = past_front g.o g.client g.block.now c.check_front.ensures c.in_default.is in
+    (omega arith, omega (arith, f.long))
 
 pub start-at-requires : goal.start-at-requires
-start-at-requires c = let front : Front c.args.o c.args.client c.args.block.now =
+start-at-requires c =
     let g = c.args in
-    past_front g.o g.client g.block.now c.check_front.ensures c.in_default.is in
-    let f = front in
-    let g = c.args in
+    let f = past_front g.o g.client g.block.now c.check_front.ensures c.in_default.is in
     let r = front-piece g.o g.client g.block.now f in
     (omega (arith, c.word.ensures, r.0), omega (arith, c.word.ensures, r.1, (ranged g.o f.opened).pieces.1))
 
 pub keeps-requires : goal.keeps-requires
-keeps-requires c = let front : Front c.args.o c.args.client c.args.block.now =
+keeps-requires c =
     let g = c.args in
-    past_front g.o g.client g.block.now c.check_front.ensures c.in_default.is in
-    let f = front in
-    (c.start-at.ensures.1, (ranged c.args.o f.opened).width.1)
+    let f = past_front g.o g.client g.block.now c.check_front.ensures c.in_default.is in
+    (c.start-at.ensures.1, (ranged g.o f.opened).width.1)
 
 pub unlike-requires : goal.unlike-requires
-unlike-requires c = let front : Front c.args.o c.args.client c.args.block.now =
+unlike-requires c =
     let g = c.args in
-    past_front g.o g.client g.block.now c.check_front.ensures c.in_default.is in
-    let f = front in
-    record { at_bound = (c.start-at.ensures.1, (ranged c.args.o f.opened).width.1); in_bounds = le_of_eq (sym f.long) }
+    let f = past_front g.o g.client g.block.now c.check_front.ensures c.in_default.is in
+    record { at_bound = (c.start-at.ensures.1, (ranged g.o f.opened).width.1); in_bounds = le_of_eq (sym f.long) }
 
 pub returns-then-unlike-ne0 : goal.returns-then-unlike-ne0
-unfolding hand_lines
-returns-then-unlike-ne0 c = let at-is : c.start-at.result ≡ start c.args.client (piece_number c.args.block.now) = c.start-at.ensures.0 ∙ ap (start c.args.client) c.word.ensures in
-    let past : let g = c.args in said (hand_lines g.slots.now g.o g.client g.block.now) ≡ said (other_values g.slots.now g.o g.client g.block.now ∷ []) =
+returns-then-unlike-ne0 c =
     let g = c.args in
-    goes_on (front_lines g.o g.client g.block.now) c.check_front.ensures (other_values g.slots.now g.o g.client g.block.now ∷ []) (done 0) c.in_default.is in
-    let g = c.args in
+    let left = past g.slots.now g.o g.client g.block.now c.check_front.ensures c.in_default.is in
+    let at-is = c.start-at.ensures.0 ∙ ap (start g.client) c.word.ensures in
     c.refuse.ensures
-    ∙ is-conflict g.slots.now g.o g.client g.block.now c.start-at.result (at-is) (sym c.keeps.ensures ∙ c.if-keeps.true) (λ z. c.if-unlike-ne0.true (c.unlike.ensures ∙ z))
-    ∙ sym (past)
+    ∙ is-conflict g.slots.now g.o g.client g.block.now c.start-at.result at-is (sym c.keeps.ensures ∙ c.if-keeps.true) (λ z. c.if-unlike-ne0.true (c.unlike.ensures ∙ z))
+    ∙ sym left
 
 pub returns-else-unlike-ne0 : goal.returns-else-unlike-ne0
-unfolding hand_lines
-returns-else-unlike-ne0 c = let at-is : c.start-at.result ≡ start c.args.client (piece_number c.args.block.now) = c.start-at.ensures.0 ∙ ap (start c.args.client) c.word.ensures in
-    let past : let g = c.args in said (hand_lines g.slots.now g.o g.client g.block.now) ≡ said (other_values g.slots.now g.o g.client g.block.now ∷ []) =
+returns-else-unlike-ne0 c =
     let g = c.args in
-    goes_on (front_lines g.o g.client g.block.now) c.check_front.ensures (other_values g.slots.now g.o g.client g.block.now ∷ []) (done 0) c.in_default.is in
-    let g = c.args in
-    not_other g.slots.now g.o g.client g.block.now c.start-at.result (at-is) (sym c.unlike.ensures ∙ c.if-unlike-ne0.false) ∙ sym (past)
+    let left = past g.slots.now g.o g.client g.block.now c.check_front.ensures c.in_default.is in
+    let at-is = c.start-at.ensures.0 ∙ ap (start g.client) c.word.ensures in
+    not_other g.slots.now g.o g.client g.block.now c.start-at.result at-is (sym c.unlike.ensures ∙ c.if-unlike-ne0.false) ∙ sym left
 
 pub returns-else-keeps : goal.returns-else-keeps
-unfolding hand_lines
-returns-else-keeps c = let at-is : c.start-at.result ≡ start c.args.client (piece_number c.args.block.now) = c.start-at.ensures.0 ∙ ap (start c.args.client) c.word.ensures in
-    let past : let g = c.args in said (hand_lines g.slots.now g.o g.client g.block.now) ≡ said (other_values g.slots.now g.o g.client g.block.now ∷ []) =
+returns-else-keeps c =
     let g = c.args in
-    goes_on (front_lines g.o g.client g.block.now) c.check_front.ensures (other_values g.slots.now g.o g.client g.block.now ∷ []) (done 0) c.in_default.is in
-    let g = c.args in
-    not_kept g.slots.now g.o g.client g.block.now c.start-at.result (at-is) (sym c.keeps.ensures ∙ c.if-keeps.false) ∙ sym (past)
+    let left = past g.slots.now g.o g.client g.block.now c.check_front.ensures c.in_default.is in
+    let at-is = c.start-at.ensures.0 ∙ ap (start g.client) c.word.ensures in
+    not_kept g.slots.now g.o g.client g.block.now c.start-at.result at-is (sym c.keeps.ensures ∙ c.if-keeps.false) ∙ sym left

@@ -2,8 +2,7 @@
 -- Assumes nothing.
 use native.Mathlib.Omega.{arith}
 use mathlib.Core.Path.{◌≡◌, refl, sym, ap, ◌∙◌}
-use mathlib.Core.Logic.{⊎_elim}
-use Prim.Native.Nat.{ℕ, ◌-◌}
+use Prim.Native.Nat.{ℕ}
 use lib.ListN.{length}
 use Rattle.lists.specs.Places.{those}
 use Rattle.lists.proofs.ThoseLaws.{those-few}
@@ -35,8 +34,8 @@ loop-j-preserved c =
       v.1,
       v.2,
       elim c.if-keeps.branch [
-        then-keeps w ↦ w.found-is ∙ turn_kept g.slots.now g.client g.o.width c.loop-j.j c.loop-j.found v.3 (at ∙ w.if-keeps.true)
-      | else-keeps w ↦ w.found-is ∙ turn_lacking g.slots.now g.client g.o.width c.loop-j.j c.loop-j.found v.3 (at ∙ w.if-keeps.false)
+        | then-keeps w ↦ w.found-is ∙ turn_kept g.slots.now g.client g.o.width c.loop-j.j c.loop-j.found v.3 (at ∙ w.if-keeps.true)
+        | else-keeps w ↦ w.found-is ∙ turn_lacking g.slots.now g.client g.o.width c.loop-j.j c.loop-j.found v.3 (at ∙ w.if-keeps.false)
       ],
     )
 

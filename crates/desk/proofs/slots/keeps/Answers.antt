@@ -1,6 +1,5 @@
 -- `desk::slots::keeps` meets its contract. The invariant: the slot is marked, and its values before i are small.
 -- Assumes nothing.
-use Prim.Native.Nat.{◌-◌}
 use Rattle.desk.proofs.KeepLaws.{unmarked, marked, too_high, small, all_small}
 use Rattle.desk.proofs.slots.keeps.Goals as goal
 

@@ -2,7 +2,7 @@
 -- Assumes nothing.
 use native.Mathlib.Omega.{arith}
 use mathlib.Core.Path.{◌≡◌, refl, ap, ◌∙◌}
-use Prim.Native.Nat.{ℕ, ◌-◌}
+use Prim.Native.Nat.{ℕ}
 use lib.ListN.{set, length-set}
 use Rattle.desk.specs.Slots.{over_at, kept}
 use Rattle.desk.proofs.PutLaws.{kept-first, kept_next, kept_last}

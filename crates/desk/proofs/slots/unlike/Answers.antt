@@ -1,7 +1,6 @@
 -- `desk::slots::unlike` meets its contract. The invariant: the first value that differs is still to be found from value i on.
 -- Assumes nothing.
 use mathlib.Core.Path.{◌∙◌, sym}
-use Prim.Native.Nat.{◌-◌}
 use Rattle.desk.proofs.KeepLaws.{ahead_all, differs, agrees, none_differs}
 use Rattle.desk.proofs.slots.unlike.Goals as goal
 

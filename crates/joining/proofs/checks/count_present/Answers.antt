@@ -2,7 +2,7 @@
 -- Assumes nothing.
 use native.Mathlib.Omega.{arith}
 use mathlib.Core.Path.{◌≡◌, refl, ap, ◌∙◌}
-use Prim.Native.Nat.{ℕ, ◌-◌}
+use Prim.Native.Nat.{ℕ}
 use lib.ListN.{length}
 use Rattle.lists.specs.Places.{those}
 use Rattle.lists.proofs.ThoseLaws.{those-few}
@@ -21,9 +21,13 @@ overflow_add-found c =
 
 pub loop-j-preserved : goal.loop-j-preserved
 loop-j-preserved c =
-    let t = c.args.table.now in (
+    let t = c.args.table.now in
+    let v = c.loop-j in (
       omega arith,
-      elim c.if-table-j-ne0.branch [ then-table-j-ne0 w ↦ w.found-is ∙ turn_found t c.loop-j.j c.loop-j.found c.loop-j.invariant.1 w.if-table-j-ne0.true | else-table-j-ne0 w ↦ w.found-is ∙ turn_missing t c.loop-j.j c.loop-j.found c.loop-j.invariant.1 w.if-table-j-ne0.false ],
+      elim c.if-table-j-ne0.branch [
+        | then-table-j-ne0 w ↦ w.found-is ∙ turn_found t v.j v.found v.invariant.1 w.if-table-j-ne0.true
+        | else-table-j-ne0 w ↦ w.found-is ∙ turn_missing t v.j v.found v.invariant.1 w.if-table-j-ne0.false
+      ],
     )
 
 pub returns : goal.returns

@@ -29,12 +29,16 @@ overflow_add-size c =
 
 pub loop-a-preserved : goal.loop-a-preserved
 unfolding blocks
-loop-a-preserved c = let says : c.same_deal.result ≡ same_deal (deal_at c.args.pile.now c.loop-a.a) c.args.d = c.same_deal.ensures ∙ ap (λ (x : DealWords). same_deal x c.args.d) c.deal_at-here.ensures in
+loop-a-preserved c =
     let s = c.args in
-    let i = c.loop-a.invariant in (
+    let v = c.loop-a in
+    let says = c.same_deal.ensures ∙ ap (λ (x : DealWords). same_deal x s.d) c.deal_at-here.ensures in (
       omega arith,
       omega arith,
-      elim c.if-same_deal.branch [ then-same_deal w ↦ w.size-is ∙ count_in s.pile.now s.d c.loop-a.a c.loop-a.size i.0 i.2 (sym (says) ∙ w.if-same_deal.true) | else-same_deal w ↦ w.size-is ∙ count_out s.pile.now s.d c.loop-a.a c.loop-a.size i.0 i.2 (sym (says) ∙ w.if-same_deal.false) ],
+      elim c.if-same_deal.branch [
+        | then-same_deal w ↦ w.size-is ∙ count_in s.pile.now s.d v.a v.size v.invariant.0 v.invariant.2 (sym says ∙ w.if-same_deal.true)
+        | else-same_deal w ↦ w.size-is ∙ count_out s.pile.now s.d v.a v.size v.invariant.0 v.invariant.2 (sym says ∙ w.if-same_deal.false)
+      ],
     )
 
 pub returns : goal.returns

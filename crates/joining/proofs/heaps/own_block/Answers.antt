@@ -1,7 +1,7 @@
 -- `joining::heaps::own_block` meets its contract. The invariant: of the blocks before block a, the own one is the first in a largest heap.
 -- Assumes nothing.
 use mathlib.Core.Path.{◌≡◌, ap, subst, ◌∙◌}
-use Prim.Native.Nat.{ℕ, ◌+◌, ◌-◌}
+use Prim.Native.Nat.{ℕ, ◌+◌}
 use native.Mathlib.Omega.{arith}
 use Rattle.pile.specs.Blocks.{blocks}
 use Rattle.joining.specs.Pile.{heap_of, heap}
@@ -20,13 +20,15 @@ deal_at-here-requires c = omega arith
 
 pub loop-a-preserved : goal.loop-a-preserved
 unfolding blocks
-loop-a-preserved c = let size_is : c.heap_of-size.result ≡ heap c.args.pile.now c.loop-a.a =
+loop-a-preserved c =
     let p = c.args.pile.now in
-    c.heap_of-size.ensures ∙ ap (heap_of p) c.deal_at-here.ensures in
-    let p = c.args.pile.now in
-    let i = c.loop-a.invariant in
-    let r : Best p (c.loop-a.a + 1) c.if-most-size.own × (c.if-most-size.most ≡ heap p c.if-most-size.own) = elim c.if-most-size.branch [ then-most-size w ↦ rw (w.own-is, w.most-is) (best_new p c.loop-a.a c.loop-a.own i.2 (rw (i.3, size_is) at w.if-most-size.true), size_is) | else-most-size w ↦ rw (w.own-is, w.most-is) (best_old p c.loop-a.a c.loop-a.own i.2 (rw (i.3, size_is) at w.if-most-size.false), i.3) ] in
-    (omega arith, omega arith, r.0, r.1)
+    let v = c.loop-a in
+    let size : c.heap_of-size.result ≡ heap p v.a = c.heap_of-size.ensures ∙ ap (heap_of p) c.deal_at-here.ensures in
+    let best : Best p (v.a + 1) c.if-most-size.own × (c.if-most-size.most ≡ heap p c.if-most-size.own) = elim c.if-most-size.branch [
+      | then-most-size w ↦ rw (w.own-is, w.most-is) (best_new p v.a v.own v.invariant.2 (rw (v.invariant.3, size) at w.if-most-size.true), size)
+      | else-most-size w ↦ rw (w.own-is, w.most-is) (best_old p v.a v.own v.invariant.2 (rw (v.invariant.3, size) at w.if-most-size.false), v.invariant.3)
+    ] in
+    (omega arith, omega arith, best.0, best.1)
 
 pub returns : goal.returns
 unfolding blocks

@@ -1,6 +1,5 @@
 -- `joining::places::chosen` meets its contract. The invariant: the lowest complete set is still to be found from set s on. Assumes nothing.
 use mathlib.Core.Path.{sym, ◌∙◌}
-use Prim.Native.Nat.{◌-◌}
 use native.Mathlib.Omega.{arith}
 use Rattle.lists.proofs.FirstLaws.{first_hit, first_miss, first-none}
 use Rattle.joining.specs.Pile.{complete}

@@ -1,10 +1,10 @@
 -- `joining::places::fill_places` meets its contract. The invariant: the table is that of the blocks before block a. Assumes nothing.
 use mathlib.Core.Path.{◌≡◌, ap, ◌∙◌}
-use Prim.Native.Nat.{◌+◌, ◌-◌, ◌≤◌, ◌<◌}
+use Prim.Native.Nat.{◌+◌, ◌-◌, ◌<◌}
 use native.Mathlib.Omega.{arith}
 use Rattle.pile.specs.Blocks.{blocks, In}
 use Rattle.joining.specs.Pile.{piece_at, has_piece}
-use Rattle.joining.proofs.PileLaws.{piece_in_lem}
+use Rattle.joining.proofs.PileLaws.{piece_read}
 use Rattle.joining.proofs.TableLaws.{table_to, table-start, turn_new, turn_kept, piece_here, piece_else, piece_end}
 use Rattle.joining.proofs.places.fill_places.Goals as goal
 use Rattle.joining.proofs.places.fill_places.Goals.{then-table-at-eq0, else-table-at-eq0}
@@ -15,76 +15,68 @@ loop-a-init c =
 
 pub piece_at-at-requires : goal.piece_at-at-requires
 unfolding blocks
-piece_at-at-requires c = let inside : In c.args.pile.now c.loop-a.a = (c.loop-a.invariant.0, omega arith) in
-    inside
+piece_at-at-requires c =
+    (c.loop-a.invariant.0, omega arith)
 
 pub overflow_sub-at : goal.overflow_sub-at
 unfolding blocks
-overflow_sub-at c = let inside : In c.args.pile.now c.loop-a.a = (c.loop-a.invariant.0, omega arith) in
-    let piece : (1 ≤ c.piece_at-at.result) × (c.piece_at-at.result ≤ 560) =
-    let p = piece_in_lem c.requires.unmixed c.loop-a.a (inside) in
-    let e = c.piece_at-at.ensures in
-    (omega (arith, p.0, e), omega (arith, p.1, e)) in
-    omega (arith, (piece).0)
+overflow_sub-at c =
+    let i : In c.args.pile.now c.loop-a.a = (c.loop-a.invariant.0, omega arith) in
+    let few = piece_read c.requires.unmixed c.loop-a.a i c.piece_at-at.ensures in
+    omega (arith, few.0)
 
 pub offset_bounds-table-at : goal.offset_bounds-table-at
 unfolding blocks
-offset_bounds-table-at c = let inside : In c.args.pile.now c.loop-a.a = (c.loop-a.invariant.0, omega arith) in
-    let piece : (1 ≤ c.piece_at-at.result) × (c.piece_at-at.result ≤ 560) =
-    let p = piece_in_lem c.requires.unmixed c.loop-a.a (inside) in
-    let e = c.piece_at-at.ensures in
-    (omega (arith, p.0, e), omega (arith, p.1, e)) in
-    omega (arith, (piece).1)
+offset_bounds-table-at c =
+    let i : In c.args.pile.now c.loop-a.a = (c.loop-a.invariant.0, omega arith) in
+    let few = piece_read c.requires.unmixed c.loop-a.a i c.piece_at-at.ensures in
+    omega (arith, few.1)
 
 pub bounds-table-at : goal.bounds-table-at
 unfolding blocks
-bounds-table-at c = let inside : In c.args.pile.now c.loop-a.a = (c.loop-a.invariant.0, omega arith) in
-    let piece : (1 ≤ c.piece_at-at.result) × (c.piece_at-at.result ≤ 560) =
-    let p = piece_in_lem c.requires.unmixed c.loop-a.a (inside) in
-    let e = c.piece_at-at.ensures in
-    (omega (arith, p.0, e), omega (arith, p.1, e)) in
-    omega (arith, (piece).0, (piece).1)
+bounds-table-at c =
+    let i : In c.args.pile.now c.loop-a.a = (c.loop-a.invariant.0, omega arith) in
+    let few = piece_read c.requires.unmixed c.loop-a.a i c.piece_at-at.ensures in
+    omega (arith, few.0, few.1)
 
 pub overflow_cast-table : goal.overflow_cast-table
 unfolding blocks
-overflow_cast-table c = let inside : In c.args.pile.now c.loop-a.a = (c.loop-a.invariant.0, omega arith) in
-    omega (arith, (inside).1, c.requires.pile_bound)
+overflow_cast-table c =
+    let i : In c.args.pile.now c.loop-a.a = (c.loop-a.invariant.0, omega arith) in
+    omega (arith, i.1, c.requires.pile_bound)
 
 pub offset_bounds-table-at-then-table-at-eq0 : goal.offset_bounds-table-at-then-table-at-eq0
 unfolding blocks
-offset_bounds-table-at-then-table-at-eq0 c = let inside : In c.args.pile.now c.loop-a.a = (c.loop-a.invariant.0, omega arith) in
-    let piece : (1 ≤ c.piece_at-at.result) × (c.piece_at-at.result ≤ 560) =
-    let p = piece_in_lem c.requires.unmixed c.loop-a.a (inside) in
-    let e = c.piece_at-at.ensures in
-    (omega (arith, p.0, e), omega (arith, p.1, e)) in
-    omega (arith, (piece).1)
+offset_bounds-table-at-then-table-at-eq0 c =
+    let i : In c.args.pile.now c.loop-a.a = (c.loop-a.invariant.0, omega arith) in
+    let few = piece_read c.requires.unmixed c.loop-a.a i c.piece_at-at.ensures in
+    omega (arith, few.1)
 
 pub bounds-table-at-then-table-at-eq0 : goal.bounds-table-at-then-table-at-eq0
 unfolding blocks
-bounds-table-at-then-table-at-eq0 c = let inside : In c.args.pile.now c.loop-a.a = (c.loop-a.invariant.0, omega arith) in
-    let piece : (1 ≤ c.piece_at-at.result) × (c.piece_at-at.result ≤ 560) =
-    let p = piece_in_lem c.requires.unmixed c.loop-a.a (inside) in
-    let e = c.piece_at-at.ensures in
-    (omega (arith, p.0, e), omega (arith, p.1, e)) in
-    omega (arith, (piece).0, (piece).1)
+bounds-table-at-then-table-at-eq0 c =
+    let i : In c.args.pile.now c.loop-a.a = (c.loop-a.invariant.0, omega arith) in
+    let few = piece_read c.requires.unmixed c.loop-a.a i c.piece_at-at.ensures in
+    omega (arith, few.0, few.1)
 
 pub loop-a-preserved : goal.loop-a-preserved
 unfolding blocks
-loop-a-preserved c = let inside : In c.args.pile.now c.loop-a.a = (c.loop-a.invariant.0, omega arith) in
-    let piece : (1 ≤ c.piece_at-at.result) × (c.piece_at-at.result ≤ 560) =
-    let p = piece_in_lem c.requires.unmixed c.loop-a.a (inside) in
-    let e = c.piece_at-at.ensures in
-    (omega (arith, p.0, e), omega (arith, p.1, e)) in
-    let piece_is : piece_at c.args.pile.now c.loop-a.a ≡ c.piece_at-at.result - 1 + 1 = omega (arith, c.piece_at-at.ensures, (piece).0) in
+loop-a-preserved c =
+    let i : In c.args.pile.now c.loop-a.a = (c.loop-a.invariant.0, omega arith) in
+    let few = piece_read c.requires.unmixed c.loop-a.a i c.piece_at-at.ensures in
     let p = c.args.pile.now in
-    let a = c.loop-a.a in
+    let v = c.loop-a in
     let at = c.piece_at-at.result - 1 in
-    let here = piece_here p a at (piece_is) in
-    let else = piece_else p a at (piece_is) in
-    let few : at < 560 = omega (arith, (piece).0, (piece).1) in (
+    let piece_is : piece_at p v.a ≡ at + 1 = omega (arith, c.piece_at-at.ensures, few.0) in
+    let here = piece_here p v.a at piece_is in
+    let else = piece_else p v.a at piece_is in
+    let below : at < 560 = omega (arith, few.0, few.1) in (
       omega arith,
       omega arith,
-      elim c.if-table-at-eq0.branch [ then-table-at-eq0 w ↦ w.table-is ∙ turn_new (has_piece p) 560 c.loop-a.table a at c.loop-a.invariant.0 few here else c.loop-a.invariant.2 w.if-table-at-eq0.true | else-table-at-eq0 w ↦ w.table-is ∙ turn_kept (has_piece p) 560 c.loop-a.table a at c.loop-a.invariant.0 few here else c.loop-a.invariant.2 w.if-table-at-eq0.false ],
+      elim c.if-table-at-eq0.branch [
+        | then-table-at-eq0 w ↦ w.table-is ∙ turn_new (has_piece p) 560 v.table v.a at i.0 below here else v.invariant.2 w.if-table-at-eq0.true
+        | else-table-at-eq0 w ↦ w.table-is ∙ turn_kept (has_piece p) 560 v.table v.a at i.0 below here else v.invariant.2 w.if-table-at-eq0.false
+      ],
     )
 
 pub returns : goal.returns

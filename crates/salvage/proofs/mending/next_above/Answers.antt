@@ -1,6 +1,5 @@
 -- `salvage::mending::next_above` meets its contract: what is ahead of word i says the same as all from `start` on. Assumes nothing.
 use mathlib.Core.Path.{refl, sym, ◌∙◌}
-use Prim.Native.Nat.{◌-◌}
 use native.Mathlib.Omega.{arith}
 use borrow.Author.Tests.{lt-ltb, le-ltb}
 use Rattle.block.specs.Words.{word_at}

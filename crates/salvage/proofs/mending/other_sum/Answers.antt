@@ -1,5 +1,4 @@
 -- `salvage::mending::other_sum` meets its contract, by the laws of its loop (SumLoop). Assumes nothing.
-use Prim.Native.Nat.{◌-◌}
 use native.Mathlib.Omega.{arith}
 use Rattle.salvage.proofs.SumLoop.{sum-start, sum_on, sum_end}
 use Rattle.salvage.proofs.mending.other_sum.Goals as goal

@@ -1,8 +1,6 @@
 -- `triangle::table::stored_line` meets its contract: antt makes the two rows of each line and finds the stored one to be them.
 -- Assumes nothing.
-use mathlib.Core.Path.{◌≡◌, refl}
-use Prim.Native.Nat.{ℕ, zero, suc, ◌≤◌, ◌<◌}
-use native.Mathlib.Nat.{le_antisymm}
+use mathlib.Core.Path.{refl}
 use native.Mathlib.Omega.{arith}
 use Rattle.prime.specs.Prime.{minus}
 use Rattle.triangle.proofs.RowLaws.{under, made, made-line}
