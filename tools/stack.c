@@ -1,6 +1,6 @@
 /* How much stack each exported function takes: it is run on a stack of its own that was painted before, and the deepest byte that
  * changed is found afterwards; twice, with two paints, so that a byte written with the paint's own value is not missed.
- *   rt staticlib titmeadow && cc -O2 -I include tools/stack.c target/staticlib/libtitmeadow.a -o target/stack && target/stack */
+ *   tools/archive && cc -O2 -I include tools/stack.c target/staticlib/libtitmeadow.a -o target/stack && target/stack */
 #include <stdio.h>
 #include <string.h>
 #include <ucontext.h>
