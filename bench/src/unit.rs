@@ -1,5 +1,5 @@
 //! The proved library behind safe functions: linked where this machine is what the library is for, x86-64, and else asked through a pipe,
-//! running in the kit's emulator.
+//! running in an emulator.
 #[cfg(target_arch = "x86_64")]
 #[path = "unit/linked.rs"]
 mod calls;

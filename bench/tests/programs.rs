@@ -1,5 +1,5 @@
-//! The programs list, join and salvager, as rt leaves them in out/ of their crates, against the independent implementation, byte for byte: random policy texts with damaged
-//! lines, random piles, and scratched ones.
+//! The programs list, join and salvager, as rt leaves them in out/ of their crates, against the independent implementation, byte for byte:
+//! random policy texts with damaged lines, random piles, and scratched ones.
 use bench::inputs;
 use bench::numbers::Numbers;
 use bench::reference::{joining, listing, salvaging};
