@@ -1,5 +1,5 @@
-// A desk with 70 slots for the pieces of two clients (SCOPE 5.2). The work is done by functions on values, which the check covers; the four
-// calls over a lent state are thin, and proved by hand. The definitions that the contracts cite are in specs/.
+// A desk with 70 slots for the pieces of two clients (SCOPE 5.2). The work is done by functions on values; the four calls over a lent state
+// are thin, and take it apart. The definitions that the contracts cite are in specs/.
 #![tactic(auto)]
 
 mod calls;

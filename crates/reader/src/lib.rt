@@ -1,6 +1,6 @@
 // The reader (SCOPE 5), a pile and how far it has come: `new`, `next` and `values`. They take the struct apart and call `seen_at`, `after`
 // and `values_of`, on the pile and a number. `read_at` and `read_all` stand above it, with plain parameters, so that their callers
-// need no proof by hand. The definitions that the contracts cite are in specs/.
+// hold no reader. The definitions that the contracts cite are in specs/.
 #![tactic(auto)]
 
 ghost use Rattle.std.specs.Prelude.{◌≡◌};
