@@ -53,15 +53,13 @@ overflow_cast-word c = omega (arith, c.type_inv.list (2 * c.loop-j.j + 1))
 
 pub write_pair-p-requires : goal.write_pair-p-requires
 write_pair-p-requires c = let line : ℕ → List ℕ = λ n. place_line c.args.list.now n in
-   
-            let l = c.loop-j in
+    let l = c.loop-j in
     subst (λ (x : List ℕ). Room x l.p l.out) (sym (place_at c.args.list.now l.j))
     (turn_room (rising (line)) (λ n. line (n + 1)) (rising_grows (line)) l.j c.args.n c.loop-j-test.true c.requires.1 l.invariant.1)
 
 pub loop-j-preserved : goal.loop-j-preserved
 loop-j-preserved c = let line : ℕ → List ℕ = λ n. place_line c.args.list.now n in
-   
-                let l = c.loop-j in (
+    let l = c.loop-j in (
       omega arith,
       turn_written (rising (line)) (λ n. line (n + 1)) (rising_grows (line)) l.j c.args.n c.loop-j-test.true c.requires.1 l.invariant.1
           (subst (λ (x : List ℕ). Writes x l.p l.out c.write_pair-p.new.out c.write_pair-p.result) (place_at c.args.list.now l.j) c.write_pair-p.ensures),
@@ -73,5 +71,5 @@ shape_of-out c = c.loop-j.invariant.2
 
 pub returns : goal.returns
 returns c =
-        let e : c.loop-j.j ≡ c.args.n = omega arith in
+    let e : c.loop-j.j ≡ c.args.n = omega arith in
     rw e at c.loop-j.invariant.1

@@ -35,8 +35,8 @@ loop-j-preserved c =
       v.1,
       v.2,
       elim c.if-keeps.branch [
-        then-keeps w ↦ w.found-is ∙ turn_kept g.slots.now g.client g.o.width c.loop-j.j c.loop-j.found v.3 (at ∙ w.if-keeps.true)
-      | else-keeps w ↦ w.found-is ∙ turn_lacking g.slots.now g.client g.o.width c.loop-j.j c.loop-j.found v.3 (at ∙ w.if-keeps.false)
+        | then-keeps w ↦ w.found-is ∙ turn_kept g.slots.now g.client g.o.width c.loop-j.j c.loop-j.found v.3 (at ∙ w.if-keeps.true)
+        | else-keeps w ↦ w.found-is ∙ turn_lacking g.slots.now g.client g.o.width c.loop-j.j c.loop-j.found v.3 (at ∙ w.if-keeps.false)
       ],
     )
 
