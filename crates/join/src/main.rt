@@ -2,12 +2,12 @@
 #![tactic(auto)]
 
 use std::io;
-use std::io::{Read, Write};
+use std::io::Write;
 
 fn main(rt: HostRuntime) -> io::Result<()> {
-    let mut pile = Vec::new(rt.alloc());
-    rt.reader().take(65537).read_to_end(&mut pile)?;
+    let mut pile = [0u8; 65537];
+    let size = streams::read_full(&mut rt.reader(), &mut pile)?;
     let mut out = [0u8; 128];
-    let count = joined_line::joined_line(&pile, &mut out);
+    let count = joined_line::joined_line(&pile[..size], &mut out);
     rt.stdout().write_all(&out[..count])
 }

@@ -2,12 +2,12 @@
 #![tactic(auto)]
 
 use std::io;
-use std::io::{Read, Write};
+use std::io::Write;
 
 fn main(rt: HostRuntime) -> io::Result<()> {
-    let mut text = Vec::new(rt.alloc());
-    rt.reader().take(16385).read_to_end(&mut text)?;
+    let mut text = [0u8; 16385];
+    let size = streams::read_full(&mut rt.reader(), &mut text)?;
     let mut out = [0u8; 4113];
-    let count = listing::listing(&text, &mut out);
+    let count = listing::listing(&text[..size], &mut out);
     rt.stdout().write_all(&out[..count])
 }

@@ -2,18 +2,18 @@
 #![tactic(auto)]
 
 use std::fs::File;
-use std::io::{Read, Write};
+use std::io::Write;
 use std::rt::Files;
 use std::{env, io};
 
-fn show(rt: &(impl Files + Alloc), to: &mut impl Write, path: &str) -> io::Result<()> {
-    let Ok(file) = File::open(rt, path) else {
+fn show(rt: &impl Files, to: &mut impl Write, path: &str) -> io::Result<()> {
+    let Ok(mut file) = File::open(rt, path) else {
         return to.write_all(b"no such file\n");
     };
-    let mut pile = Vec::new(rt.alloc());
-    file.take(65537).read_to_end(&mut pile)?;
+    let mut pile = [0u8; 65537];
+    let size = streams::read_full(&mut file, &mut pile)?;
     let mut out = [0u8; 128];
-    let count = joined_line::joined_line(&pile, &mut out);
+    let count = joined_line::joined_line(&pile[..size], &mut out);
     write!(to, "{path}: ")?;
     to.write_all(&out[..count])
 }

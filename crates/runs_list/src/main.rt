@@ -2,18 +2,18 @@
 #![tactic(auto)]
 
 use std::fs::File;
-use std::io::{Read, Write};
+use std::io::Write;
 use std::rt::Files;
 use std::{env, io};
 
-fn show(rt: &(impl Files + Alloc), to: &mut impl Write, path: &str) -> io::Result<()> {
-    let Ok(file) = File::open(rt, path) else {
+fn show(rt: &impl Files, to: &mut impl Write, path: &str) -> io::Result<()> {
+    let Ok(mut file) = File::open(rt, path) else {
         return to.write_all(b"no such file\n");
     };
-    let mut text = Vec::new(rt.alloc());
-    file.take(16385).read_to_end(&mut text)?;
+    let mut text = [0u8; 16385];
+    let size = streams::read_full(&mut file, &mut text)?;
     let mut out = [0u8; 4113];
-    let count = listing::listing(&text, &mut out);
+    let count = listing::listing(&text[..size], &mut out);
     write!(to, "{path}: ")?;
     to.write_all(&out[..count])
 }

@@ -7,7 +7,7 @@ use answer::{Answer, Refusal};
 use block::Words;
 use reader::Seen;
 use std::fs::File;
-use std::io::{Read, Write};
+use std::io::Write;
 use std::rt::Files;
 use std::{env, io};
 
@@ -93,15 +93,15 @@ fn whole(to: &mut impl Write, pile: &[u8]) -> io::Result<()> {
     to.write_all(b"\n")
 }
 
-fn show(rt: &(impl Files + Alloc), to: &mut impl Write, path: &str) -> io::Result<()> {
-    let Ok(file) = File::open(rt, path) else {
+fn show(rt: &impl Files, to: &mut impl Write, path: &str) -> io::Result<()> {
+    let Ok(mut file) = File::open(rt, path) else {
         return to.write_all(b"no such file\n");
     };
-    let mut pile = Vec::new(rt.alloc());
-    file.take(8192).read_to_end(&mut pile)?;
+    let mut pile = [0u8; 8192];
+    let size = streams::read_full(&mut file, &mut pile)?;
     write!(to, "{path}:\n")?;
-    walk(to, &pile)?;
-    whole(to, &pile)
+    walk(to, &pile[..size])?;
+    whole(to, &pile[..size])
 }
 
 fn main(rt: HostRuntime) -> io::Result<()> {

@@ -3,7 +3,7 @@
 #![tactic(auto)]
 
 use std::fs::File;
-use std::io::{Read, Write};
+use std::io::Write;
 use std::rt::Files;
 use std::{env, io};
 
@@ -21,14 +21,14 @@ fn salvage_and_join(to: &mut impl Write, pile: &mut [u8]) -> io::Result<()> {
     Ok(())
 }
 
-fn show(rt: &(impl Files + Alloc), to: &mut impl Write, path: &str) -> io::Result<()> {
-    let Ok(file) = File::open(rt, path) else {
+fn show(rt: &impl Files, to: &mut impl Write, path: &str) -> io::Result<()> {
+    let Ok(mut file) = File::open(rt, path) else {
         return to.write_all(b"no such file\n");
     };
-    let mut pile = Vec::new(rt.alloc());
-    file.take(65537).read_to_end(&mut pile)?;
+    let mut pile = [0u8; 65537];
+    let size = streams::read_full(&mut file, &mut pile)?;
     write!(to, "{path}: ")?;
-    salvage_and_join(to, &mut pile)
+    salvage_and_join(to, &mut pile[..size])
 }
 
 fn main(rt: HostRuntime) -> io::Result<()> {

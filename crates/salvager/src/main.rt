@@ -3,13 +3,13 @@
 #![tactic(auto)]
 
 use std::io;
-use std::io::{Read, Write};
+use std::io::Write;
 
 fn main(rt: HostRuntime) -> io::Result<()> {
-    let mut pile = Vec::new(rt.alloc());
-    rt.reader().take(65537).read_to_end(&mut pile)?;
+    let mut pile = [0u8; 65537];
+    let size = streams::read_full(&mut rt.reader(), &mut pile)?;
     let mut out = [0u8; 2444];
-    let report = salvaged_text::salvaged_text(&mut pile, &mut out);
+    let report = salvaged_text::salvaged_text(&mut pile[..size], &mut out);
     let bytes = report.bytes;
     let text = report.text;
     rt.stdout().write_all(&pile[..bytes])?;

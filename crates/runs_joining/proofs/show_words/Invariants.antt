@@ -1,6 +1,5 @@
 -- `runs_joining::show_words` is safe and ends. Assumes nothing.
-use Prim.Native.Nat.{◌-◌, ◌≤◌}
-use lib.ListN.{length}
+use Rattle.std.proofs.Common.{◌-◌, ◌≤◌, length}
 use Rattle.runs_joining.proofs.show_words.Given as goal
 
 abbrev pub invariant-loop-i : goal.invariant-loop-i

@@ -1,5 +1,5 @@
--- `runs_planning::held` is safe and ends. The invariant: no more rows were counted than were looked at. Assumes nothing.
-use Prim.Native.Nat.{◌≤◌}
+-- `runs_planning::held` is safe and ends. Assumes nothing.
+use Rattle.std.proofs.Common.{◌≤◌}
 use Rattle.runs_planning.proofs.held.Given as goal
 
 abbrev pub invariant-loop-j : goal.invariant-loop-j

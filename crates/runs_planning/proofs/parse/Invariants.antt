@@ -1,7 +1,5 @@
 -- `runs_planning::parse` is safe and ends, and counts no more sets than its list has places. Assumes nothing.
-use mathlib.Core.Path.{◌≡◌}
-use Prim.Native.Nat.{◌-◌, ◌≤◌}
-use lib.ListN.{length}
+use Rattle.std.proofs.Common.{◌≡◌, ◌-◌, ◌≤◌, length}
 use Rattle.runs_planning.proofs.parse.Given as goal
 
 abbrev pub invariant-loop-i : goal.invariant-loop-i

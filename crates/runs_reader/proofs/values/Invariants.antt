@@ -1,6 +1,5 @@
--- `runs_reader::values` is safe and ends. Assumes nothing.
-use Prim.Native.Nat.{◌-◌, ◌/◌, ◌≤◌}
-use lib.ListN.{length}
+-- `runs_reader::values` is safe and ends: the words that it asks for are inside. Assumes nothing.
+use Rattle.std.proofs.Common.{◌-◌, ◌/◌, ◌≤◌, length}
 use Rattle.runs_reader.proofs.values.Given as goal
 
 abbrev pub invariant-loop-i : goal.invariant-loop-i

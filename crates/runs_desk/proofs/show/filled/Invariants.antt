@@ -1,9 +1,9 @@
--- `runs_desk::show::filled` is safe and ends. The invariant: no more were found than were looked at. Assumes nothing.
-use Prim.Native.Nat.{◌-◌, ◌≤◌}
+-- `runs_desk::show::filled` is safe and ends: no more numbers are counted than were looked at. Assumes nothing.
+use Rattle.std.proofs.Common.{◌-◌, ◌≤◌}
 use Rattle.runs_desk.proofs.show.filled.Given as goal
 
 abbrev pub invariant-loop-i : goal.invariant-loop-i
-invariant-loop-i l = (l.found ≤ l.i) × (l.i ≤ 1190)
+invariant-loop-i l = (l.i ≤ 1190) × (l.found ≤ l.i)
 
 abbrev pub decreases-loop-i : goal.decreases-loop-i
 decreases-loop-i l = 1190 - l.i
