@@ -2,17 +2,17 @@
 // side, or the refusal.
 #![tactic(auto)]
 
-mod lists;
+mod holding_lists;
 mod show;
 
 use std::io;
 
 fn main(rt: HostRuntime) -> io::Result<()> {
     let mut to = rt.stdout();
-    lists::two_of_three(&mut to)?;
-    lists::first_policy(&mut to)?;
-    lists::one_each(&mut to)?;
-    lists::our_own(&mut to)?;
-    lists::rows(&mut to)?;
-    lists::planning_first(&mut to)
+    holding_lists::two_of_three(&mut to)?;
+    holding_lists::first_policy(&mut to)?;
+    holding_lists::one_each(&mut to)?;
+    holding_lists::our_own(&mut to)?;
+    holding_lists::rows(&mut to)?;
+    holding_lists::planning_first(&mut to)
 }
