@@ -1,6 +1,5 @@
 -- `packing::put` meets its contract. The invariant: the first i bytes stand over the front of what was lent. Assumes nothing.
 use mathlib.Core.Path.{refl, ◌∙◌}
-use Prim.Native.Nat.{◌-◌}
 use lib.ListN.{get_or, length-set}
 use borrow.Author.Rules.{rules}
 use Rattle.packing.proofs.SayLaws.{put-start, put_more, put_end}

@@ -27,7 +27,7 @@ pub returns-then-size-gt65536 : goal.returns-then-size-gt65536
 returns-then-size-gt65536 c = let long-fits : Room (refused_line 14 0 0) 0 c.args.out.now =
     let g : length c.args.out.now ≡ 2444 = omega arith in
     record { room = omega (arith, refused-few Long 0 0 (omega arith) (omega arith)) } in
-    let r = is-long c.args.pile.now c.if-size-gt65536.true in record {
+    let r = is-long c.args.pile.now (omega arith) in record {
       text = subst (λ (l : List ℕ). Prints l c.args.out.now c.write_refusal-text.new.out c.write_refusal-text.result) r.0
           (printed c.write_refusal-text.ensures (long-fits));
       bytes = none_printed c.args.pile.now (salvaged_bytes c.args.pile.now) r.1;
@@ -35,7 +35,7 @@ returns-then-size-gt65536 c = let long-fits : Room (refused_line 14 0 0) 0 c.arg
 
 pub write_report-text-requires : goal.write_report-text-requires
 write_report-text-requires c = let pile : List ℕ = c.args.pile.now in
-    let small : length (pile) ≤ 65536 = c.if-size-gt65536.false in
+    let small : length (pile) ≤ 65536 = omega arith in
     let count : ℕ = c.in-Done.n in
     let says-done : salvaging (pile) 256 ≡ done (count) = sym c.salvage.ensures.says ∙ ap outcome c.in-Done.is in
     let fits : Room (report (count) c.salvage.new.list) 0 c.args.out.now =
@@ -45,7 +45,7 @@ write_report-text-requires c = let pile : List ℕ = c.args.pile.now in
 
 pub returns-in-Done : goal.returns-in-Done
 returns-in-Done c = let pile : List ℕ = c.args.pile.now in
-    let small : length (pile) ≤ 65536 = c.if-size-gt65536.false in
+    let small : length (pile) ≤ 65536 = omega arith in
     let count : ℕ = c.in-Done.n in
     let says-done : salvaging (pile) 256 ≡ done (count) = sym c.salvage.ensures.says ∙ ap outcome c.in-Done.is in
     let fits : Room (report (count) c.salvage.new.list) 0 c.args.out.now =
@@ -67,7 +67,7 @@ write_refusal-text-requires-in-Refused c = let refusal_fits : let r = c.in-Refus
 
 pub returns-in-Refused : goal.returns-in-Refused
 returns-in-Refused c = let pile : List ℕ = c.args.pile.now in
-    let small : length (pile) ≤ 65536 = c.if-size-gt65536.false in
+    let small : length (pile) ≤ 65536 = omega arith in
     let says-refused : let r = c.in-Refused.r in salvaging (pile) 256 ≡ refused (number r.kind) r.a r.b = sym c.salvage.ensures.says ∙ ap outcome c.in-Refused.is in
     let refusal_fits : let r = c.in-Refused.r in Room (refused_line (number r.kind) r.a r.b) 0 c.args.out.now =
     let r = c.in-Refused.r in

@@ -61,7 +61,7 @@ returns-then-unlike-ne0 c =
     let left = past g.slots.now g.o g.client g.block.now c.check_front.ensures c.in_default.is in
     let at-is = c.start-at.ensures.0 ∙ ap (start g.client) c.word.ensures in
     c.refuse.ensures
-    ∙ is-conflict g.slots.now g.o g.client g.block.now c.start-at.result at-is (sym c.keeps.ensures ∙ c.if-keeps.true) (λ z. c.if-unlike-ne0.true (c.unlike.ensures ∙ z))
+    ∙ is-conflict g.slots.now g.o g.client g.block.now c.start-at.result at-is (sym c.keeps.ensures ∙ c.if-keeps.true) (λ z. omega (arith, c.unlike.ensures ∙ z))
     ∙ sym left
 
 pub returns-else-unlike-ne0 : goal.returns-else-unlike-ne0
@@ -69,7 +69,8 @@ returns-else-unlike-ne0 c =
     let g = c.args in
     let left = past g.slots.now g.o g.client g.block.now c.check_front.ensures c.in_default.is in
     let at-is = c.start-at.ensures.0 ∙ ap (start g.client) c.word.ensures in
-    not_other g.slots.now g.o g.client g.block.now c.start-at.result at-is (sym c.unlike.ensures ∙ c.if-unlike-ne0.false) ∙ sym left
+    let same : c.unlike.result ≡ 0 = omega arith in
+    not_other g.slots.now g.o g.client g.block.now c.start-at.result at-is (sym c.unlike.ensures ∙ same) ∙ sym left
 
 pub returns-else-keeps : goal.returns-else-keeps
 returns-else-keeps c =

@@ -46,14 +46,14 @@ unfolding blocks
 returns-then-pile-gt560 c =
     let e = c.refuse-then-pile-gt560.ensures in
     record {
-      says = e ∙ speaks (left1 c.args.pile.now c.if-pile-ne0.false) (lt-ltb 560 _ c.if-pile-gt560.true);
+      says = e ∙ speaks (left1 c.args.pile.now c.if-pile-ne0.false) (lt-ltb 560 (length c.args.pile.now / 512) (omega arith));
       table = λ w q. never_both (sym q ∙ e);
     }
 
 pub returns-in-Refused : goal.returns-in-Refused
 returns-in-Refused c =
     let p = c.args.pile.now in
-    let left = left2 p c.if-pile-ne0.false c.if-pile-gt560.false in
+    let left = left2 p c.if-pile-ne0.false (omega arith) in
     record { says = part_speaks (every_block p) _ left c.check_blocks.ensures c.in-Refused.is; table = λ w q. never_both (sym q) }
 
 pub returns-then-pile-eq0 : goal.returns-then-pile-eq0
@@ -66,12 +66,12 @@ unfolding blocks
 check_whole-requires c =
     let p = c.args.pile.now in
     record {
-      bound = (omega arith, omega (arith, c.if-pile-gt560.false));
+      bound = (omega arith, omega arith);
       true_blocks = blocks_true p (done-passed (every_block p) (done 0) _ (sym c.check_blocks.ensures ∙ ap outcome c.in_default.is)).0;
       table_value = c.requires;
     }
 
 pub returns : goal.returns
 returns c =
-    let left = left3 c.args.pile.now c.if-pile-ne0.false c.if-pile-gt560.false c.check_blocks.ensures c.in_default.is in
+    let left = left3 c.args.pile.now c.if-pile-ne0.false (omega arith) c.check_blocks.ensures c.in_default.is in
     record { says = c.check_whole.ensures.says ∙ sym left.says; table = c.check_whole.ensures.table }

@@ -1,5 +1,6 @@
 -- `joining::checks::check_whole` meets its contract: at each return the lines before have passed.
 -- Assumes nothing.
+use native.Mathlib.Omega.{arith}
 use mathlib.Core.Path.{◌≡◌, sym, ap, ◌∙◌}
 use mathlib.Core.List.{List, [], ◌∷◌}
 use Prim.Native.Nat.{ℕ, ◌≤◌}
@@ -31,22 +32,22 @@ pub returns-then-other-ne0 : goal.returns-then-other-ne0
 returns-then-other-ne0 c =
     let e = c.mixed_at-other.ensures in
     record {
-      says = c.refuse.ensures ∙ ap (λ a. refused 18 a 0) e ∙ speaks (whole _) (found_some (λ z. c.if-other-ne0.true (e ∙ z)));
+      says = c.refuse.ensures ∙ ap (λ a. refused 18 a 0) e ∙ speaks (whole _) (found_some (λ z. omega (arith, sym e, z)));
       table = λ w q. never_both (sym q ∙ c.refuse.ensures);
     }
 
 pub own_deal-own-requires : goal.own_deal-own-requires
 own_deal-own-requires c =
-    one_deal c.args.pile.now c.mixed_at-other.ensures c.if-other-ne0.false c.requires.bound c.requires.true_blocks
+    one_deal c.args.pile.now c.mixed_at-other.ensures (omega arith) c.requires.bound c.requires.true_blocks
 
 pub fill_places-requires : goal.fill_places-requires
 fill_places-requires c =
-    let u = one_deal c.args.pile.now c.mixed_at-other.ensures c.if-other-ne0.false c.requires.bound c.requires.true_blocks in
+    let u = one_deal c.args.pile.now c.mixed_at-other.ensures (omega arith) c.requires.bound c.requires.true_blocks in
     record { unmixed = u; pile_bound = c.requires.bound.1; table_value = c.requires.table_value }
 
 pub check_conflict-requires : goal.check_conflict-requires
 check_conflict-requires c =
-    let u = one_deal c.args.pile.now c.mixed_at-other.ensures c.if-other-ne0.false c.requires.bound c.requires.true_blocks in
+    let u = one_deal c.args.pile.now c.mixed_at-other.ensures (omega arith) c.requires.bound c.requires.true_blocks in
     record {
       unmixed = u;
       pile_bound = c.requires.bound.1;
@@ -56,15 +57,15 @@ check_conflict-requires c =
 
 pub returns-in-Refused : goal.returns-in-Refused
 returns-in-Refused c =
-    let left = left1 c.args.pile.now c.mixed_at-other.ensures c.if-other-ne0.false in
+    let left = left1 c.args.pile.now c.mixed_at-other.ensures (omega arith) in
     record { says = part_speaks (conflict c.args.pile.now ∷ []) _ left c.check_conflict.ensures c.in-Refused.is; table = λ w q. never_both (sym q) }
 
 pub check_short-requires : goal.check_short-requires
 check_short-requires c =
-    let u = one_deal c.args.pile.now c.mixed_at-other.ensures c.if-other-ne0.false c.requires.bound c.requires.true_blocks in
+    let u = one_deal c.args.pile.now c.mixed_at-other.ensures (omega arith) c.requires.bound c.requires.true_blocks in
     record { unmixed = u; own_value = c.own_deal-own.ensures; table_value = c.fill_places.ensures }
 
 pub returns : goal.returns
 returns c =
-    let left = left2 c.args.pile.now c.mixed_at-other.ensures c.if-other-ne0.false c.check_conflict.ensures c.in_default.is in
+    let left = left2 c.args.pile.now c.mixed_at-other.ensures (omega arith) c.check_conflict.ensures c.in_default.is in
     record { says = c.check_short.ensures ∙ sym left.says; table = λ w q. c.fill_places.ensures }

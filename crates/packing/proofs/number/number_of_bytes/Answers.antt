@@ -1,7 +1,6 @@
 -- `packing::number::number_of_bytes` meets its contract. The invariant: the number of all digits is that of those read and those to come.
 -- Assumes nothing.
 use mathlib.Core.Path.{refl, sym, ap, ◌∙◌}
-use Prim.Native.Nat.{◌-◌}
 use native.Mathlib.Numerals.{add-one}
 use native.Mathlib.Nat.{lt_of_le_of_lt}
 use native.Mathlib.Omega.{arith}
