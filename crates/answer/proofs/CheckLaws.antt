@@ -8,9 +8,8 @@ use mathlib.Core.Logic.{⊎_elim}
 use Prim.Native.Nat.{ℕ}
 use native.Mathlib.Omega.{arith}
 use Rattle.answer.specs.declared.Refusal.{Refusal}
-use Rattle.answer.specs.declared.Answer.{Answer}
-use Rattle.answer.specs.declared.Answer.TheVariants.{Done, Refused}
-use Rattle.answer.specs.Outcome.{Outcome, done, refused, number, outcome}
+use Rattle.std.specs.Prelude.{⊤, Result, Ok, Err}
+use Rattle.answer.specs.Outcome.{Outcome, done, refused, number, checked}
 use Rattle.answer.specs.Checks.{Line, pick, first_fail}
 use Rattle.answer.specs.Laws.{Passed, By}
 
@@ -109,13 +108,13 @@ refused_by [] v m a b e = never_both e
 refused_by (l ∷ ls) v m a b e = by_pick l ls l.given (first_fail ls (done v)) m a b refl (refused_by ls v m a b) e
 
 -- ---- a chain in the code: a callee says what the lines ls say, and the caller goes by its answer
-module _ (ls : List Line) {x : Answer} (says : outcome x ≡ first_fail ls (done 0)) where
+module _ (ls : List Line) {x : Result ⊤ Refusal} (says : checked x ≡ first_fail ls (done 0)) where
   -- a refusal is what these lines say with any lines after them
-  pub stops : (ms : List Line) (end : Outcome ℕ) {r : Refusal} → x ≡ Refused r → outcome (Refused r) ≡ first_fail (ls ++ ms) end
+  pub stops : (ms : List Line) (end : Outcome ℕ) {r : Refusal} → x ≡ Err r → refused (number r.kind) r.a r.b ≡ first_fail (ls ++ ms) end
   stops ms end {r} q =
       sym (append-lines ls ms end
-      ∙ same_refusal ls 0 (first_fail ms end) (number r.kind) r.a r.b (sym says ∙ ap outcome q))
+      ∙ same_refusal ls 0 (first_fail ms end) (number r.kind) r.a r.b (sym says ∙ ap checked q))
 
   -- a result: the lines after them speak
-  pub goes_on : (ms : List Line) (end : Outcome ℕ) {u : ℕ} → x ≡ Done u → first_fail (ls ++ ms) end ≡ first_fail ms end
-  goes_on ms end {u} q = append-lines ls ms end ∙ passed-done ls (first_fail ms end) (done-passed ls (done 0) u (sym says ∙ ap outcome q)).0
+  pub goes_on : (ms : List Line) (end : Outcome ℕ) {u : ⊤} → x ≡ Ok u → first_fail (ls ++ ms) end ≡ first_fail ms end
+  goes_on ms end {u} q = append-lines ls ms end ∙ passed-done ls (first_fail ms end) (done-passed ls (done 0) 0 (sym says ∙ ap checked q)).0

@@ -4,3 +4,4 @@ pub mod WhichLaws
 pub mod SaysLaws
 pub mod LentLaws
 pub mod Laws
+pub mod PassedOn

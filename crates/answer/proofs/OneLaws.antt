@@ -11,9 +11,8 @@ use Rattle.answer.specs.declared.Kind.TheVariants.{People, LongList, Stranger, N
 use Rattle.answer.specs.declared.Kind.TheVariants.{Room, Torn, Long, Unread, Check, Header, Mixed, Conflict, Short, Text, Lone, NotKey, Unlike, Year}
 use Rattle.answer.specs.declared.Kind.TheVariants.{NoClient, Busy, Full, Closed, Rows}
 use Rattle.answer.specs.declared.Refusal.{Refusal}
-use Rattle.answer.specs.declared.Answer.{Answer}
-use Rattle.answer.specs.declared.Answer.TheVariants.{Done, Refused}
-use Rattle.answer.specs.Outcome.{number, outcome}
+use Rattle.std.specs.Prelude.{Result, Ok, Err}
+use Rattle.answer.specs.Outcome.{Answer, number, outcome_by, outcome}
 
 -- the kind of a number; no kind has 0 or 7
 kind_of : ℕ → Kind
@@ -75,12 +74,16 @@ refusal_one r s n p q =
     let h : made r.kind r.a r.b ≡ made s.kind s.a s.b = cc in
     h
 
-pub outcome_one : (x y : Answer) → outcome x ≡ outcome y → x ≡ y
-outcome_one (Done v) (Done w) e = let h : v ≡ w = cc in ap Done h
-outcome_one (Done v) (Refused s) e = cc
-outcome_one (Refused r) (Done w) e = cc
-outcome_one (Refused r) (Refused s) e =
+-- answers whose results say different things differ
+pub answer_one : {T A : Type 0} (f : T → A) → ((v w : T) → f v ≡ f w → v ≡ w) → (x y : Result T Refusal) → outcome_by f x ≡ outcome_by f y → x ≡ y
+answer_one f one (Ok v) (Ok w) e = let h : f v ≡ f w = cc in ap Ok (one v w h)
+answer_one f one (Ok v) (Err s) e = cc
+answer_one f one (Err r) (Ok w) e = cc
+answer_one f one (Err r) (Err s) e =
     let n : number r.kind ≡ number s.kind = cc in
     let p : r.a ≡ s.a = cc in
     let q : r.b ≡ s.b = cc in
-    ap Refused (refusal_one r s n p q)
+    ap Err (refusal_one r s n p q)
+
+pub outcome_one : (x y : Answer) → outcome x ≡ outcome y → x ≡ y
+outcome_one = answer_one (λ v. v) (λ v w e. e)

@@ -5,9 +5,8 @@ use mathlib.Core.Bool.{true, false}
 use mathlib.Core.List.{List, [], ◌∷◌, ◌++◌}
 use Prim.Native.Nat.{ℕ}
 use Rattle.answer.specs.declared.Refusal.{Refusal}
-use Rattle.answer.specs.declared.Answer.{Answer}
-use Rattle.answer.specs.declared.Answer.TheVariants.{Done, Refused}
-use Rattle.answer.specs.Outcome.{Outcome, done, refused, number, outcome}
+use Rattle.std.specs.Prelude.{⊤, Result, Ok, Err}
+use Rattle.answer.specs.Outcome.{Outcome, done, refused, number, checked}
 use Rattle.answer.specs.Checks.{Line, first_fail}
 use Rattle.answer.proofs.CheckLaws.{given, not_given, stops, goes_on}
 
@@ -36,9 +35,9 @@ unfolding first_fail
 silent h = sym h.says
 
 -- a callee says what the first lines say: its refusal is what all of them say, and where it passes the others speak
-module _ (ls ms : List Line) {o : Outcome ℕ} {x : Answer} (h : Says o (ls ++ ms)) (e : outcome x ≡ said ls) where
-  pub part_speaks : {r : Refusal} → x ≡ Refused r → outcome (Refused r) ≡ o
+module _ (ls ms : List Line) {o : Outcome ℕ} {x : Result ⊤ Refusal} (h : Says o (ls ++ ms)) (e : checked x ≡ said ls) where
+  pub part_speaks : {r : Refusal} → x ≡ Err r → refused (number r.kind) r.a r.b ≡ o
   part_speaks q = stops ls e ms (done 0) q ∙ sym h.says
 
-  pub part_passes : {v : ℕ} → x ≡ Done v → Says o ms
+  pub part_passes : {v : ⊤} → x ≡ Ok v → Says o ms
   part_passes q = record { says = h.says ∙ goes_on ls e ms (done 0) q }

@@ -3,8 +3,7 @@
 use Rattle.std.specs.Prelude.{◌≡◌, true, false, ◌≢◌, ℕ}
 use mathlib.Core.List.{List, Memᴰ}
 use Rattle.answer.specs.declared.Kind.{Kind}
-use Rattle.answer.specs.declared.Answer.{Answer}
-use Rattle.answer.specs.Outcome.{Outcome, done, refused, number, outcome}
+use Rattle.answer.specs.Outcome.{Outcome, Answer, done, refused, number, outcome}
 use Rattle.answer.specs.Checks.{Line, first_fail, numbers}
 use Rattle.lists.specs.Over.{over}
 use Rattle.lists.specs.Some.{◌∈◌}

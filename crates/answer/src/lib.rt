@@ -3,44 +3,44 @@
 #![tactic(auto)]
 
 ghost use Rattle.std.specs.Prelude.{◌≡◌};
-ghost use Rattle.answer.specs.Outcome.{number, outcome, refused};
+ghost use Rattle.answer.specs.Outcome.{number, refusal};
 
-// The kinds of refusal, in the order of the table in SCOPE 6.2. None has the number 7, which is vacant.
-#[derive(Clone, Copy)]
+// The kinds of refusal, each with its number in the table of SCOPE 6.2. None has the number 7, which is vacant.
+#[derive(Clone, Copy, PartialEq, Eq)]
 pub enum Kind {
-    People,
-    LongList,
-    Stranger,
-    Nobody,
-    Open,
-    Clash,
-    Deal,
-    Holder,
-    Secret,
-    Random,
-    Room,
-    Torn,
-    Long,
-    Unread,
-    Check,
-    Header,
-    Mixed,
-    Conflict,
-    Short,
-    Text,
-    Lone,
-    NotKey,
-    Unlike,
-    Year,
-    NoClient,
-    Busy,
-    Full,
-    Closed,
-    Rows,
+    People = 1,
+    LongList = 2,
+    Stranger = 3,
+    Nobody = 4,
+    Open = 5,
+    Clash = 6,
+    Deal = 8,
+    Holder = 9,
+    Secret = 10,
+    Random = 11,
+    Room = 12,
+    Torn = 13,
+    Long = 14,
+    Unread = 15,
+    Check = 16,
+    Header = 17,
+    Mixed = 18,
+    Conflict = 19,
+    Short = 20,
+    Text = 21,
+    Lone = 22,
+    NotKey = 23,
+    Unlike = 24,
+    Year = 25,
+    NoClient = 26,
+    Busy = 27,
+    Full = 28,
+    Closed = 29,
+    Rows = 30,
 }
 
 // A refusal: its kind and its two places, each 0 where SCOPE 6.2 names none.
-#[derive(Clone, Copy)]
+#[derive(Clone, Copy, PartialEq, Eq)]
 pub struct Refusal {
     pub kind: Kind,
     pub a: usize,
@@ -48,56 +48,23 @@ pub struct Refusal {
 }
 
 // A result and its number (k, blocks, w), or a refusal.
-#[derive(Clone, Copy)]
-pub enum Answer {
-    Done(usize),
-    Refused(Refusal),
-}
+pub type Answer = Result<usize, Refusal>;
+
+// What a check answers: nothing, or a refusal.
+pub type Checked = Result<(), Refusal>;
 
 // The number of a kind, by SCOPE 6.2.
-pub fn number_of(k: Kind) -> usize
-    ensures { result ≡ number k }
-{
-    match k {
-        Kind::People => 1,
-        Kind::LongList => 2,
-        Kind::Stranger => 3,
-        Kind::Nobody => 4,
-        Kind::Open => 5,
-        Kind::Clash => 6,
-        Kind::Deal => 8,
-        Kind::Holder => 9,
-        Kind::Secret => 10,
-        Kind::Random => 11,
-        Kind::Room => 12,
-        Kind::Torn => 13,
-        Kind::Long => 14,
-        Kind::Unread => 15,
-        Kind::Check => 16,
-        Kind::Header => 17,
-        Kind::Mixed => 18,
-        Kind::Conflict => 19,
-        Kind::Short => 20,
-        Kind::Text => 21,
-        Kind::Lone => 22,
-        Kind::NotKey => 23,
-        Kind::Unlike => 24,
-        Kind::Year => 25,
-        Kind::NoClient => 26,
-        Kind::Busy => 27,
-        Kind::Full => 28,
-        Kind::Closed => 29,
-        Kind::Rows => 30,
+impl From<Kind> for usize {
+    ghost from_gives = { λ k n. n ≡ number k };
+
+    fn from(k: Kind) -> usize {
+        k as usize
     }
 }
 
-// The refusal of this kind at these places.
-pub fn refuse(k: Kind, a: usize, b: usize) -> Answer
-    ensures { outcome result ≡ refused (number k) a b }
+// The refusal of this kind at these places, whatever the result would be.
+pub fn refuse<T>(kind: Kind, a: usize, b: usize) -> Result<T, Refusal>
+    ensures { result ≡ Err (refusal kind a b) }
 {
-    Answer::Refused(Refusal {
-        kind: k,
-        a: a,
-        b: b,
-    })
+    Err(Refusal { kind, a, b })
 }

@@ -1,12 +1,11 @@
 -- `opened` tells any two answers apart: equal outcomes, equal answers.
 -- Assumes nothing.
-use mathlib.Core.Path.{◌≡◌, ap}
+use mathlib.Core.Path.{◌≡◌}
 use Prim.Native.Nat.{ℕ}
-use Rattle.answer.specs.Outcome.{number}
-use Rattle.answer.proofs.OneLaws.{refusal_one}
+use Rattle.std.specs.Prelude.{Result}
+use Rattle.answer.specs.declared.Refusal.{Refusal}
+use Rattle.answer.proofs.OneLaws.{answer_one}
 use Rattle.block.specs.declared.Words.{Words}
-use Rattle.block.specs.declared.Opened.{Opened}
-use Rattle.block.specs.declared.Opened.TheVariants.{Head, Refused}
 use Rattle.block.specs.Open.{words_of, opened}
 
 -- antt compares two records by their fields: what is shown of `made` at a struct's fields is shown of the struct
@@ -20,12 +19,5 @@ words_one h k e =
     ≡ made k.mark k.deal k.holder k.people k.pieces k.width k.piece = cc in
     q
 
-pub opened_one : (x y : Opened) → opened x ≡ opened y → x ≡ y
-opened_one (Head h) (Head k) e = let q : words_of h ≡ words_of k = cc in ap Head (words_one h k q)
-opened_one (Head h) (Refused s) e = cc
-opened_one (Refused r) (Head k) e = cc
-opened_one (Refused r) (Refused s) e =
-    let n : number r.kind ≡ number s.kind = cc in
-    let p : r.a ≡ s.a = cc in
-    let q : r.b ≡ s.b = cc in
-    ap Refused (refusal_one r s n p q)
+pub opened_one : (x y : Result Words Refusal) → opened x ≡ opened y → x ≡ y
+opened_one = answer_one words_of words_one

@@ -11,9 +11,9 @@ use lib.ListN.{length}
 use lib.Dec.{eqb}
 use borrow.Author.Tests.{lt-ltb, le-ltb, ltb-false, eqb-true, eq-eqb, ne_eqb, not-false}
 use Rattle.answer.specs.declared.Refusal.{Refusal}
-use Rattle.answer.specs.declared.Answer.{Answer}
-use Rattle.answer.specs.declared.Answer.TheVariants.{Done, Refused as Answer-Refused}
-use Rattle.answer.specs.Outcome.{Outcome, done, refused, number, outcome}
+use Rattle.std.specs.Prelude.{⊤, Result, Ok, Err}
+use Rattle.answer.specs.Outcome.{Outcome, done, refused, number, checked}
+use Rattle.lists.specs.Places.{found}
 use Rattle.answer.specs.Checks.{Line, first_fail}
 use Rattle.lists.specs.Some.{some}
 use Rattle.lists.specs.Laws.{IsFirst}
@@ -23,10 +23,9 @@ use Rattle.answer.proofs.WhichLaws.{only_one, first-is}
 use Rattle.lists.proofs.FirstLaws.{first-all, is-first, none_in, below_end, found_some, found_none, some-found, none_found}
 use Rattle.block.specs.declared.Label.{Label}
 use Rattle.block.specs.declared.Words.{Words}
-use Rattle.block.specs.declared.Opened.TheVariants.{Head, Refused}
 use Rattle.block.specs.Words.{word_at, check_of, Small}
 use Rattle.block.specs.Layout.{front_words, right_at, first_wrong}
-use Rattle.block.specs.Open.{above, first_above, torn, unread, check, header, slot_lines, block_lines, torn_block, first_foreign, foreign, one_lines, opening, words_of, opened, TrueBlock}
+use Rattle.block.specs.Open.{above, first_above, torn, unread, check, header, slot_lines, block_lines, torn_block, first_foreign, foreign, one_lines, opening, words_of, TrueBlock}
 use Rattle.block.specs.Laws.{Scheme, first, sets, Refusable, by_torn, by_unread, by_check, by_header}
 use Rattle.block.proofs.LayoutLaws.{layout_of, of_layout}
 use Rattle.block.proofs.RangeLaws.{true_ranges}
@@ -42,8 +41,8 @@ of_small b s = first-all (above b) 1 257 (λ k l h. le-ltb 32748 (word_at b k) (
 
 -- ---- the lines of a block: which of them speaks
 module _ {A : Type 0} (b : List ℕ) (a : ℕ) (end : Outcome A) where
-  pub slots_unread : first_above b ≢ 0 → first_fail (slot_lines b a) end ≡ refused 15 a (first_above b)
-  slots_unread h = given (unread b a) (check b a ∷ []) end (found_some h)
+  pub slots_unread : found (first_above b) ≡ true → first_fail (slot_lines b a) end ≡ refused 15 a (first_above b)
+  slots_unread h = given (unread b a) (check b a ∷ []) end h
 
   past_unread : first_above b ≡ 0 → first_fail (slot_lines b a) end ≡ first_fail (check b a ∷ []) end
   past_unread h = not_given (unread b a) (check b a ∷ []) end (found_none h)
@@ -191,14 +190,14 @@ which_refusals pile m a b e =
     (Memᴰ.cases_cons r.listed)
 
 -- ---- the code's chain: it opens the first block of a pile by the answer to its lines
-module _ (pile : List ℕ) (long : 512 ≤ length pile) {x : Answer} (says : outcome x ≡ first_fail (block_lines pile 1) (done 0)) where
-  pub open_refused : {r : Refusal} → x ≡ Answer-Refused r → opened (Refused r) ≡ opening pile
+module _ (pile : List ℕ) (long : 512 ≤ length pile) {x : Result ⊤ Refusal} (says : checked x ≡ first_fail (block_lines pile 1) (done 0)) where
+  pub open_refused : {r : Refusal} → x ≡ Err r → refused (number r.kind) r.a r.b ≡ opening pile
   open_refused {r} q =
       sym (opening-block pile long
-      ∙ same_refusal (block_lines pile 1) 0 (done (front_words pile)) (number r.kind) r.a r.b (sym says ∙ ap outcome q))
+      ∙ same_refusal (block_lines pile 1) 0 (done (front_words pile)) (number r.kind) r.a r.b (sym says ∙ ap checked q))
 
-  pub open_head : {u : ℕ} (h : Words) → x ≡ Done u → words_of h ≡ front_words pile → opened (Head h) ≡ opening pile
+  pub open_head : {u : ⊤} (h : Words) → x ≡ Ok u → words_of h ≡ front_words pile → done (words_of h) ≡ opening pile
   open_head {u} h q e =
       ap done e
       ∙ sym (opening-block pile long
-      ∙ passed-done (block_lines pile 1) (done (front_words pile)) (done-passed (block_lines pile 1) (done 0) u (sym says ∙ ap outcome q)).0)
+      ∙ passed-done (block_lines pile 1) (done (front_words pile)) (done-passed (block_lines pile 1) (done 0) 0 (sym says ∙ ap checked q)).0)

@@ -2,42 +2,26 @@
 -- Assumes nothing.
 use mathlib.Core.Path.{◌≡◌, sym, ap, ◌∙◌}
 use mathlib.Core.Bool.{not}
-use mathlib.Core.Logic.{⊎_elim}
 use mathlib.Core.List.{List}
 use Prim.Native.Nat.{ℕ, ◌+◌, ◌-◌, ◌*◌, ◌≤◌, ◌<◌}
 use native.Mathlib.Decide.{dec_lt}
-use native.Mathlib.Nat.{eq-or-lt_of_le}
 use native.Mathlib.Omega.{arith}
 use borrow.Author.Tests.{eq-eqb}
 use lib.ListN.{length, get_or, take, drop, get_or-eq_default}
 use lib.Seq.{get_or-take, get_or-drop}
+use Rattle.std.specs.Prelude.{sum}
+use Rattle.std.proofs.lemmas.List.Sums.{get_or-le-sum_by}
 use Rattle.lists.specs.Places.{first_in}
 use Rattle.lists.proofs.FirstLaws.{first-all}
 use Rattle.block.specs.Words.{word_at}
 use Rattle.block.specs.Inner.{filled}
 
--- the sum of the first i bytes is not above 255 for each, and is 0 only where they are all 0
-pub record Summed (b : List ℕ) (sum i : ℕ) : Type 0 where
-  pub in_list : i ≤ length b
-  pub low : sum ≤ 255 * i
-  pub zero-only : sum ≡ 0 → (k : ℕ) → k < i → get_or b k 0 ≡ 0
-
-pub sum-start : (b : List ℕ) → Summed b 0 0
-sum-start b = record { in_list = omega arith; low = omega arith; zero-only = λ e k l. absurd (omega arith) }
-
-pub sum_on : {b : List ℕ} {sum i : ℕ} → i < length b → get_or b i 0 ≤ 255 → Summed b sum i → Summed b (sum + get_or b i 0) (i + 1)
-sum_on {b} {sum} {i} l byte s = record {
-  in_list = omega arith;
-  low = omega (arith, s.low);
-  zero-only = λ e k m.
-      ⊎_elim (λ (same : k ≡ i). rw same (omega arith)) (λ (less : k < i). s.zero-only (omega arith) k less) (eq-or-lt_of_le (omega arith));
-}
-
-pub sum_end : {b : List ℕ} {sum i : ℕ} → length b ≤ i → Summed b sum i → sum ≡ 0 → (k : ℕ) → get_or b k 0 ≡ 0
-sum_end {b} {sum} {i} l s e k = go (dec_lt k (length b))
+-- where the sum is 0, each number is
+pub all_zero : (b : List ℕ) → sum b ≡ 0 → (k : ℕ) → get_or b k 0 ≡ 0
+all_zero b e k = go (dec_lt k (length b))
   where
     go : Dec (k < length b) → get_or b k 0 ≡ 0
-    go (yes m) = s.zero-only e k (omega arith)
+    go (yes m) = omega (arith, get_or-le-sum_by (λ (x : ℕ). x) b k 0 m)
     go (no m) = get_or-eq_default b 0 (omega arith)
 
 -- the bytes of words `start` to `end` - 1 are 0: none of those words is anything else

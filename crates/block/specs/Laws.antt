@@ -1,15 +1,16 @@
 -- The laws that this room owes; their proofs are in proofs/Laws.antt.
 -- Assumes nothing.
-use Rattle.std.specs.Prelude.{ℕ, ◌+◌, ◌*◌, ◌≤◌, ◌<◌, ◌≡◌, Bool, true, false, ◌≢◌, ◌↔◌, List, [], ◌++◌, length, get_or, take}
+use Rattle.std.specs.Prelude.{Result, ℕ, ◌+◌, ◌*◌, ◌≤◌, ◌<◌, ◌≡◌, Bool, true, false, ◌≢◌, ◌↔◌, List, [], ◌++◌, length, get_or, take}
 use Rattle.lists.specs.Run.{run}
 use Rattle.lists.specs.Laws.{IsFirst}
+use Rattle.answer.specs.declared.Refusal.{Refusal}
 use Rattle.answer.specs.declared.Kind.TheVariants.{Unread, Header}
 use Rattle.answer.specs.Outcome.{done, refused, number}
 use Rattle.answer.specs.Checks.{first_fail}
 use Rattle.answer.specs.Laws.{Passed}
 use Rattle.block.specs.declared.deal.DealWords.{DealWords}
+use Rattle.block.specs.declared.Words.{Words}
 use Rattle.block.specs.declared.Label.{Label}
-use Rattle.block.specs.declared.Opened.{Opened}
 use Rattle.block.specs.Words.{word_at, put_at, bytes_of}
 use Rattle.block.specs.Deals.{same_deal}
 use Rattle.block.specs.Layout.{front_words, piece_number, piece_of, width_of, held_at, Ranged, label_of, values_of, first_wrong}
@@ -112,7 +113,7 @@ WhichRefusals = (pile : List ℕ) (m a b : ℕ) → opening pile ≡ refused m a
 
 -- Equal outcomes, equal answers: the promise `opened r ≡ opening pile` leaves one possible answer.
 abbrev pub OpenedOne : Type 0
-OpenedOne = (x y : Opened) → opened x ≡ opened y → x ≡ y
+OpenedOne = (x y : Result Words Refusal) → opened x ≡ opened y → x ≡ y
 
 -- SCOPE 5: the value bytes of a true block are 2w, and they are its words from 8 to 7+w, all of them.
 abbrev pub ValueWords : Type 0

@@ -1,8 +1,8 @@
 -- Opening the first block of what is lent (SCOPE 5): TORN, UNREAD, CHECK, HEADER, else words 1 to 7; and the value bytes.
 -- Assumes nothing.
-use Rattle.std.specs.Prelude.{ℕ, ◌*◌, ◌≤◌, ◌≡◌, Bool, cond, not, List, [], ◌∷◌, ◌++◌, length, take, drop, eqb, ltb}
+use Rattle.std.specs.Prelude.{Result, ℕ, ◌*◌, ◌≤◌, ◌≡◌, Bool, cond, not, List, [], ◌∷◌, ◌++◌, length, take, drop, eqb, ltb}
 use Rattle.answer.specs.declared.Kind.TheVariants.{Torn, Unread, Check, Header}
-use Rattle.answer.specs.Outcome.{Outcome, done, refused, number}
+use Rattle.answer.specs.Outcome.{Outcome, done, refused, outcome_by}
 use Rattle.answer.specs.Checks.{Line, line, first_fail}
 use Rattle.lists.specs.Places.{first_in, found}
 use Rattle.prime.specs.Prime.{too_large}
@@ -10,8 +10,7 @@ use Rattle.block.specs.Words.{word_at, check_of, Small}
 use Rattle.block.specs.Deals.{marks_sets}
 use Rattle.block.specs.Layout.{front_words, width_of, first_wrong, Layout}
 use Rattle.block.specs.declared.Words.{Words}
-use Rattle.block.specs.declared.Opened.{Opened}
-use Rattle.block.specs.declared.Opened.TheVariants.{Head, Refused}
+use Rattle.answer.specs.declared.Refusal.{Refusal}
 
 -- word i exceeds 32748
 abbrev pub above : List ℕ → ℕ → Bool
@@ -83,9 +82,8 @@ abbrev pub words_of : Words → List ℕ
 words_of h = h.mark ∷ h.deal ∷ h.holder ∷ h.people ∷ h.pieces ∷ h.width ∷ h.piece ∷ []
 
 -- what the code's answer says
-abbrev pub opened : Opened → Outcome (List ℕ)
-opened (Head h) = done (words_of h)
-opened (Refused r) = refused (number r.kind) r.a r.b
+abbrev pub opened : Result Words Refusal → Outcome (List ℕ)
+opened = outcome_by words_of
 
 -- SCOPE 4: a true block; none of UNREAD, CHECK and HEADER applies to it, and no word exceeds 32748
 pub record TrueBlock (b : List ℕ) : Type 0 where

@@ -7,7 +7,7 @@ use crate::word;
 
 // The words that all blocks of a deal share: the scheme's mark, deal number, people, pieces, secret words, year. In a deal by sets each set has
 // its own number of pieces, and they share none: 0.
-#[derive(Clone, Copy)]
+#[derive(Clone, Copy, PartialEq, Eq)]
 pub struct DealWords {
     pub mark: u16,
     pub number: u16,
@@ -23,18 +23,14 @@ pub fn deal_words(b: &[u8]) -> DealWords
     ensures { result ≡ deal_words b.now }
 {
     let mark = word(b, 1);
-    let number = word(b, 2);
-    let people = word(b, 4);
     let pieces = if mark == 1988 { 0 } else { word(b, 5) };
-    let width = word(b, 6);
-    let year = word(b, 24);
     DealWords {
         mark,
-        number,
-        people,
+        number: word(b, 2),
+        people: word(b, 4),
         pieces,
-        width,
-        year,
+        width: word(b, 6),
+        year: word(b, 24),
     }
 }
 
@@ -42,22 +38,7 @@ pub fn deal_words(b: &[u8]) -> DealWords
 pub fn same_deal(x: DealWords, y: DealWords) -> bool
     ensures { result ≡ same_deal x y }
 {
-    if x.mark != y.mark {
-        return false;
-    }
-    if x.number != y.number {
-        return false;
-    }
-    if x.people != y.people {
-        return false;
-    }
-    if x.pieces != y.pieces {
-        return false;
-    }
-    if x.width != y.width {
-        return false;
-    }
-    x.year == y.year
+    x == y
 }
 
 // The piece of the block b: its number, after eight for each set before its own.

@@ -9,13 +9,12 @@ mod writing;
 ghost use Rattle.std.specs.Prelude.{◌≡◌, ◌+◌, ◌-◌, ◌*◌, ◌≤◌, length};
 ghost use Rattle.block.specs.Words.{word_at};
 
-use answer::Refusal;
 pub use deal::{DealWords, deal_words, piece_of, same_deal};
 pub use reading::{check_block, check_one, check_slots, first_wrong, open, values};
 pub use writing::{put_word, write_at, write_block};
 
 // Words 1 to 7 of a block.
-#[derive(Clone, Copy)]
+#[derive(Clone, Copy, PartialEq, Eq)]
 pub struct Words {
     pub mark: u16,
     pub deal: u16,
@@ -40,20 +39,13 @@ pub struct Label {
     pub set: u16,
 }
 
-// What opening a block answers.
-#[derive(Clone, Copy)]
-pub enum Opened {
-    Head(Words),
-    Refused(Refusal),
-}
-
 // Word i of b.
 pub fn word(b: &[u8], i: usize) -> u16
     requires { (1 ≤ i) × (2 * i ≤ length b.now) }
     ensures { result ≡ word_at b.now i }
 {
     let at = 2 * (i - 1);
-    (b[at] as u16) * 256 + (b[at + 1] as u16)
+    u16::from_be_bytes([b[at], b[at + 1]])
 }
 
 // One step of a check: the one place where a word enters a sum. No word above 32748 gets there. Each word adds at most

@@ -13,8 +13,9 @@ pub fn put_word(b: &mut [u8], i: usize, v: u16)
     ensures { b.new ≡ put_at b.old i v }
 {
     let at = 2 * (i - 1);
-    b[at] = (v / 256) as u8;
-    b[at + 1] = (v % 256) as u8;
+    let [high, low] = v.to_be_bytes();
+    b[at] = high;
+    b[at + 1] = low;
 }
 
 // Word i of a block that is written, i from 1 to 255.
@@ -46,12 +47,10 @@ pub fn write_block(out: &mut [u8], l: Label, values: &[u16])
     ensures { out.new ≡ over (block_bytes l values.now) out.old }
 {
     let mut sum: u32 = 0;
-    let mut i: usize = 1;
-    while i < 256 {
+    for i in 1..256 {
         let v = body_word(i, l, values);
         put_word(out, i, v);
         sum = weigh(sum, i, v);
-        i += 1;
     }
     put_word(out, 256, (sum % 32749) as u16);
 }

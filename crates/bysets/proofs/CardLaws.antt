@@ -18,19 +18,15 @@ use Rattle.minimal.proofs.CountLaws.{member-piece}
 use Rattle.block.specs.Written.{block_bytes, Buildable}
 use Rattle.block.specs.Laws.{sets}
 use Rattle.block.proofs.BodyLaws.{length-block, builds}
-use Rattle.dealing.specs.declared.Asked.{Asked}
-use Rattle.dealing.specs.Inner.{Ready}
+use Rattle.dealing.specs.Inner.{Ready, Writable}
 use Rattle.bysets.specs.Cards.{set_label_for, set_block_for, sizes, block_by}
 use Rattle.bysets.specs.Inner.{SetsReady}
+use Rattle.block.specs.declared.Label.{Label}
+use Rattle.dealing.specs.Deal.{Asked}
+use Rattle.dealing.specs.Inner.{shared_label}
 use Rattle.bysets.proofs.SizeLaws.{size_at, sizes-length, after, set_after, size_after, coefficients_more}
 
 -- ---- one block
-module _ (asked : Asked) (k : ℕ) (secret random : List ℕ) (j place : ℕ) where
-  pub block-is : (vs : List ℕ) → vs ≡ values (k - 1) secret random j
-      → block_bytes (set_label_for asked k (length secret) j place) vs ≡ set_block_for asked k secret random j place
-  unfolding set_block_for
-  block-is vs e = ap (block_bytes (set_label_for asked k (length secret) j place)) e
-
 pub block_size : (asked : Asked) (list secret random : List ℕ) (s : ℕ) → length (block_by asked list secret random s) ≡ 512
 unfolding block_by set_block_for
 block_size asked list secret random s = length-block _ _
@@ -53,6 +49,37 @@ set_builds {asked} {k} {secret} {random} r j place vs l u few from to e =
     r.year_in
     (λ i. rw e (omega (arith, (values-below (k - 1) secret random j).each i)))
     (sym (ap length e ∙ values_length (k - 1) secret random j))
+
+-- the label of piece j of the k pieces of the set at this place, as the code makes it of what the labels of the card share
+abbrev pub piece_label : Label → ℕ → ℕ → ℕ → Label
+piece_label shared k j place =
+    record {
+      mark = 1988;
+      number = shared.number;
+      holder = shared.holder;
+      people = shared.people;
+      pieces = k;
+      width = shared.width;
+      piece = j;
+      year = shared.year;
+      set = place;
+    }
+
+module _ (asked : Asked) (k : ℕ) (secret random : List ℕ) {shared : Label} (e : shared ≡ shared_label asked (length secret)) (j place : ℕ) where
+  pub block-is : block_bytes (piece_label shared k j place) (values (k - 1) secret random j) ≡ set_block_for asked k secret random j place
+  unfolding set_block_for
+  block-is = ap (λ (l : Label). block_bytes (piece_label l k j place) (values (k - 1) secret random j)) e
+
+  pub set_writable : Ready asked k secret random → 1 ≤ j → j ≤ k → k ≤ asked.people → 1 ≤ place → place ≤ 70
+      → Writable (piece_label shared k j place) secret random
+  set_writable r l u few from to =
+      rw e (record {
+        some_piece = r.least;
+        width_in = r.width_in.1;
+        secret_in = r.secret_in;
+        random_in = r.random_in;
+        buildable = set_builds r j place (values (k - 1) secret random j) l u few from to refl;
+      })
 
 -- before the first set no randomness is used
 pub none_used : (width : ℕ) (ks : List ℕ) → 0 ≡ width * coefficients (take 0 ks)

@@ -2,14 +2,12 @@
 -- Assumes nothing.
 use Prim.Native.Nat.{ℕ, ◌≤◌}
 use mathlib.Core.Path.{◌≡◌, sym, ap, ◌∙◌}
-use mathlib.Core.List.{List, ◌++◌}
+use mathlib.Core.List.{List}
 use native.Mathlib.Omega.{arith}
-use lib.ListN.{length, take, replicate, length-append}
-use lib.Seq.{take_at}
-use Rattle.answer.specs.declared.Answer.{Answer}
-use Rattle.answer.specs.declared.Answer.TheVariants.{Done, Refused}
+use lib.ListN.{length}
+use Rattle.std.specs.Prelude.{⊤, Result, Ok, Err}
 use Rattle.answer.specs.declared.Refusal.{Refusal}
-use Rattle.answer.specs.Outcome.{Outcome, done, outcome}
+use Rattle.answer.specs.Outcome.{Outcome, done, refused, number, checked}
 use Rattle.answer.specs.Checks.{first_fail}
 use Rattle.answer.specs.Laws.{Passed}
 use Rattle.answer.specs.Lent.{left}
@@ -23,21 +21,12 @@ use Rattle.minimal.specs.Minimal.{minimals, set_count, set_of, sets_with, counte
 use Rattle.minimal.specs.Laws.{Known}
 use Rattle.minimal.proofs.Laws.{size_in}
 use Rattle.minimal.proofs.MinimalLaws.{set_in, minimal_in, seventy}
-use Rattle.dealing.specs.declared.Asked.{Asked}
-use Rattle.dealing.specs.Deal.{Deal, asked_of}
+use Rattle.dealing.specs.Deal.{Asked, Deal, asked_of}
 use Rattle.dealing.specs.Dealt.{input_lines, card_lines}
 use Rattle.dealing.proofs.InputLaws.{lines-given}
 use Rattle.bysets.specs.Cards.{sizes, card_by, sets_of, sets_held, set_card}
 use Rattle.bysets.specs.Dealt.{set_block_count, set_deal_lines, set_dealing, set_dealt_into}
 use Rattle.bysets.specs.Inner.{Proper, SetsReady}
-
--- ---- the sets that fill the front of the array are lent
-module _ (made : List ℕ) (rest : ℕ) {all : List ℕ} {count : ℕ} (is : count ≡ length made) (filled : all ≡ made ++ replicate rest 0) where
-  pub lent-sets : take count all ≡ made
-  lent-sets = rw filled (take_at made (replicate rest 0) count (sym is))
-
-  pub lent_in : count ≤ length all
-  lent_in = omega (arith, ap length filled, length-append made (replicate rest 0), is)
 
 -- ---- an accepted policy: its minimal sets are at most 70, each of 1 to n members
 pub known : (p : Policy) → Passed (plan_lines p) → Known p.people p.required
@@ -81,18 +70,18 @@ sets_say asked list secret random room =
     first_fail (card_lines asked (coefficients (sizes list)) secret random blocks room) (done blocks)
 
 -- ---- the code's chain: what planning's lines answered, x, and then what the deal of the sets answered
-module _ (d : Deal) (holder : ℕ) {x : Answer} (says : outcome x ≡ first_fail (plan_lines d.policy) (done 0)) where
-  pub refused_deal : {r : Refusal} → x ≡ Refused r → (out : List ℕ)
-      → (outcome (Refused r) ≡ set_dealing d holder (length out)) × (out ≡ set_dealt_into d holder out)
+module _ (d : Deal) (holder : ℕ) {x : Result ⊤ Refusal} (says : checked x ≡ first_fail (plan_lines d.policy) (done 0)) where
+  pub refused_deal : {r : Refusal} → x ≡ Err r → (out : List ℕ)
+      → (refused (number r.kind) r.a r.b ≡ set_dealing d holder (length out)) × (out ≡ set_dealt_into d holder out)
   unfolding set_dealing set_deal_lines set_dealt_into
   refused_deal {r} q out =
       let e = stops (plan_lines d.policy) says _ (done (set_block_count d holder)) q in
       (e, ap (λ (o : Outcome ℕ). left o (set_card d holder) out) e)
 
-  pub plan_passed : {u : ℕ} → x ≡ Done u → Passed (plan_lines d.policy)
-  plan_passed {u} q = (done-passed (plan_lines d.policy) (done 0) u (sym says ∙ ap outcome q)).0
+  pub plan_passed : {u : ⊤} → x ≡ Ok u → Passed (plan_lines d.policy)
+  plan_passed {u} q = (done-passed (plan_lines d.policy) (done 0) 0 (sym says ∙ ap checked q)).0
 
-  pub deals : {u : ℕ} → x ≡ Done u → (list : List ℕ) → list ≡ sets_of d → (o : Outcome ℕ) (out now : List ℕ)
+  pub deals : {u : ⊤} → x ≡ Ok u → (list : List ℕ) → list ≡ sets_of d → (o : Outcome ℕ) (out now : List ℕ)
       → o ≡ sets_say (asked_of d holder) list d.secret d.random (length out)
       → now ≡ left o (card_by (asked_of d holder) list d.secret d.random) out
       → (o ≡ set_dealing d holder (length out)) × (now ≡ set_dealt_into d holder out)

@@ -35,8 +35,7 @@ use Rattle.block.specs.Layout.{held_at}
 use Rattle.block.specs.Open.{opening, value_bytes, TrueBlock}
 use Rattle.block.specs.Written.{block_bytes, Buildable}
 use Rattle.block.proofs.Laws.{opens-written}
-use Rattle.dealing.specs.declared.Asked.{Asked}
-use Rattle.dealing.specs.Deal.{Deal, again, asked_of}
+use Rattle.dealing.specs.Deal.{Asked, Deal, again, asked_of}
 use Rattle.dealing.specs.Dealt.{input_lines}
 use Rattle.dealing.specs.Inner.{room_says}
 use Rattle.dealing.proofs.HeldLaws.{map_same}

@@ -1,15 +1,14 @@
 -- How many members the sets of a list have, and the loops that count coefficients and blocks set by set; sets count from 0 there.
 -- Assumes nothing.
 use mathlib.Core.Path.{◌≡◌, refl, sym, ap, ◌∙◌}
-use mathlib.Core.Bool.{Bool, true, false}
+use mathlib.Core.Bool.{Bool}
 use mathlib.Core.List.{List}
 use Prim.Native.Nat.{ℕ, ◌+◌, ◌-◌, ◌*◌, ◌≤◌, ◌<◌, zero-le}
 use native.Mathlib.Numerals.{add-one}
 use native.Mathlib.Omega.{arith}
 use lib.ListN.{length, get_or, take, length-map, get_or-map}
-use lib.Seq.{take_all}
 use Rattle.lists.specs.Places.{at, those}
-use Rattle.lists.proofs.ThoseLaws.{count_hit, count_miss, those-few}
+use Rattle.lists.proofs.ThoseLaws.{those-few}
 use Rattle.field.specs.Parts.{coefficients}
 use Rattle.field.proofs.PartLaws.{coefficients-next}
 use Rattle.planning.specs.Sets.{member, member_count}
@@ -42,9 +41,6 @@ set_after sets c = ap (λ (x : ℕ). get_or sets x 0) (after c)
 -- the members that the code counts are those of set c + 1
 pub size_after : (sets : List ℕ) (c k : ℕ) → k ≡ counted (get_or sets c 0) 16 → k ≡ member_count (at sets (c + 1))
 size_after sets c k e = e ∙ counted-all (get_or sets c 0) ∙ ap member_count (sym (set_after sets c))
-
-pub proper_more : {n : ℕ} {sets : List ℕ} → n ≤ 8 → Proper n sets → Proper 8 sets
-proper_more few p = record { count = p.count; least = p.least; most = λ s l h. omega (arith, p.most s l h) }
 
 -- ---- the coefficients of one set more
 pub coefficients_more : (sets : List ℕ) (c k : ℕ) → c < length sets → k ≡ counted (get_or sets c 0) 16
@@ -82,10 +78,6 @@ module _ {n : ℕ} {sets : List ℕ} {total i : ℕ} (few : n ≤ 8) (p : Proper
   pub counting_small : total ≤ 560
   counting_small = omega (arith, c.low, c.within, p.count)
 
-  pub counting_end : length sets ≤ i → (total ≡ coefficients (sizes sets)) × (total ≤ 4096)
-  counting_end h =
-      (c.so_far ∙ ap coefficients (take_all i (sizes sets) (omega (arith, sizes-length sets))), omega (arith, counting_small))
-
 -- ---- the sets that have the holder, set by set
 -- the holder is in set s
 abbrev pub has : List ℕ → ℕ → ℕ → Bool
@@ -95,21 +87,6 @@ module _ (sets : List ℕ) (holder c : ℕ) where
   pub next_in : {b : Bool} → member holder (get_or sets c 0) ≡ b → has sets holder (c + 1) ≡ b
   next_in e = ap (member holder) (set_after sets c) ∙ e
 
-  one_plus : 1 + c ≡ c + 1
-  one_plus = omega arith
-
-  pub held_hit : (n : ℕ) → member holder (get_or sets c 0) ≡ true → n ≡ length (sets_with sets holder c) → n + 1 ≡ length (sets_with sets holder (c + 1))
-  unfolding sets_with
-  held_hit n e h = count_hit (has sets holder) 1 c n h (ap (has sets holder) one_plus ∙ next_in e)
-
-  pub held_miss : (n : ℕ) → member holder (get_or sets c 0) ≡ false → n ≡ length (sets_with sets holder c) → n ≡ length (sets_with sets holder (c + 1))
-  unfolding sets_with
-  held_miss n e h = count_miss (has sets holder) 1 c n h (ap (has sets holder) one_plus ∙ next_in e)
-
   pub held-few : length (sets_with sets holder c) ≤ c
   unfolding sets_with
   held-few = those-few (has sets holder) 1 c
-
-pub held_none : (sets : List ℕ) (holder : ℕ) → 0 ≡ length (sets_with sets holder 0)
-unfolding sets_with those
-held_none sets holder = refl

@@ -9,8 +9,7 @@ use Rattle.planning.specs.Sets.{member_count}
 use Rattle.minimal.specs.Minimal.{minimals, sets_with, number_in}
 use Rattle.block.specs.declared.Label.{Label}
 use Rattle.block.specs.Written.{block_bytes}
-use Rattle.dealing.specs.declared.Asked.{Asked}
-use Rattle.dealing.specs.Deal.{Deal, asked_of}
+use Rattle.dealing.specs.Deal.{Asked, Deal, asked_of}
 
 -- ---- one block: from what is asked, the k pieces of a set, the secret, the set's part of the randomness, the holder's piece and the set's place
 -- the label of the block of piece j, where the secret has so many words

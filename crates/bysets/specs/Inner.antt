@@ -4,7 +4,7 @@ use Rattle.lists.specs.Places.{at}
 use Rattle.prime.specs.Prime.{Below}
 use Rattle.field.specs.Parts.{RandomAll}
 use Rattle.planning.specs.Sets.{member_count}
-use Rattle.dealing.specs.declared.Asked.{Asked}
+use Rattle.dealing.specs.Deal.{Asked}
 use Rattle.bysets.specs.Cards.{sizes}
 
 -- at most 70 sets, each of 1 to n members

@@ -15,8 +15,7 @@ use Rattle.planning.proofs.Laws.{held_are}
 use Rattle.block.specs.Written.{block_bytes}
 use Rattle.block.specs.Earlier.{former_bytes}
 use Rattle.block.proofs.Laws.{earlier_block}
-use Rattle.dealing.specs.declared.Asked.{Asked}
-use Rattle.dealing.specs.Deal.{Deal, label_for, block_for, asked_of, deal_pieces, held_by, piece_values, label, block_of, card}
+use Rattle.dealing.specs.Deal.{Asked, Deal, label_for, block_for, asked_of, deal_pieces, held_by, piece_values, label, block_of, card}
 use Rattle.dealing.specs.Laws.{EarlierCards}
 use Rattle.lists.specs.Flat.{flat}
 

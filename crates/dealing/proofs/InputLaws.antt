@@ -14,9 +14,9 @@ use Rattle.lists.proofs.FirstLaws.{place_lacks, none_found, first-all, found_non
 use Rattle.prime.specs.Prime.{Below, too_large}
 use Rattle.field.proofs.Sums.{below-within}
 use Rattle.lists.proofs.RangeLaws.{in_range, range_in}
-use Rattle.dealing.specs.declared.Asked.{Asked}
 use Rattle.block.specs.Deals.{bad_number, bad_year}
 use Rattle.dealing.specs.Dealt.{bad_holder, bad_width, bad_secret, bad_count, bad_random, input_lines}
+use Rattle.dealing.specs.Deal.{Asked}
 use Rattle.dealing.specs.Inner.{Ready}
 
 -- ---- words of at most 32748

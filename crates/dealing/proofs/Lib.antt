@@ -1,5 +1,6 @@
 pub mod HeldLaws
 pub mod InputLaws
+pub mod CountLaws
 pub mod CardLaws
 pub mod LaidLaws
 pub mod DealLaws

@@ -7,7 +7,6 @@ use Rattle.planning.specs.Groups as planning
 use Rattle.planning.specs.Policy.{Policy}
 use Rattle.block.specs.declared.Label.{Label}
 use Rattle.block.specs.Written.{block_bytes}
-use Rattle.dealing.specs.declared.Asked.{Asked}
 
 -- SCOPE 3: one deal, the five that all its cards are made from
 pub record Deal : Type 0 where
@@ -24,6 +23,13 @@ deal_from policy number year secret random = record { policy = policy; number = 
 -- the same policy, deal number and year with another secret and other randomness
 abbrev pub again : Deal → List ℕ → List ℕ → Deal
 again d secret random = deal_from d.policy d.number d.year secret random
+
+-- which card is asked for: of which deal, whose, among so many people
+pub record Asked : Type 0 where
+  pub people : ℕ
+  pub number : ℕ
+  pub year : ℕ
+  pub holder : ℕ
 
 -- ---- a card of k pieces: from what is asked, k, the secret and the randomness
 -- the label of the block of piece j, where the secret has so many words

@@ -9,8 +9,7 @@ use Rattle.lists.specs.Places.{first_place, found, outside}
 use Rattle.answer.specs.Lent.{no_room, left}
 use Rattle.planning.specs.Planned.{plan_lines}
 use Rattle.block.specs.Deals.{bad_number, bad_year}
-use Rattle.dealing.specs.declared.Asked.{Asked}
-use Rattle.dealing.specs.Deal.{Deal, asked_of, deal_pieces, held_by, card}
+use Rattle.dealing.specs.Deal.{Asked, Deal, asked_of, deal_pieces, held_by, card}
 
 -- 9 HOLDER: the holder is 0 or exceeds n
 unfoldable pub bad_holder : ℕ → ℕ → Line

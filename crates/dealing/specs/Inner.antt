@@ -1,14 +1,39 @@
--- What dealing's own functions say to one another: the pieces held by the table of rows, and what the checks before a card have made sure
--- of. No promise to a caller names these. Assumes nothing.
-use Rattle.std.specs.Prelude.{ℕ, ◌*◌, ◌≤◌, Bool, not, List, [], ◌∷◌, length}
+-- What the functions of dealing and of dealing by sets say to one another: the pieces held by the table of rows, what a block can be written
+-- from, and what the checks before a card have made sure of. No promise of a whole deal names these. Assumes nothing.
+use Rattle.std.specs.Prelude.{ℕ, ◌-◌, ◌*◌, ◌≤◌, Bool, not, List, [], ◌∷◌, length}
 use Rattle.answer.specs.Outcome.{Outcome, done}
 use Rattle.answer.specs.Checks.{first_fail}
 use Rattle.lists.specs.Places.{those}
 use Rattle.answer.specs.Lent.{no_room}
 use Rattle.prime.specs.Prime.{Below}
-use Rattle.field.specs.Pieces.{Random}
+use Rattle.field.specs.Pieces.{Random, values}
 use Rattle.planning.specs.Groups.{marked}
-use Rattle.dealing.specs.declared.Asked.{Asked}
+use Rattle.block.specs.declared.Label.{Label}
+use Rattle.block.specs.Written.{Buildable}
+use Rattle.dealing.specs.Deal.{Asked}
+
+-- what the labels of all blocks of a card share, where the secret has so many words; the mark, the pieces, the piece and the set are each block's own
+abbrev pub shared_label : Asked → ℕ → Label
+shared_label asked width =
+    record {
+      mark = 0;
+      number = asked.number;
+      holder = asked.holder;
+      people = asked.people;
+      pieces = 0;
+      width = width;
+      piece = 0;
+      year = asked.year;
+      set = 0;
+    }
+
+-- what a block of a piece can be written from: its label, and the secret and the randomness that give the label's piece its values
+pub record Writable (label : Label) (secret random : List ℕ) : Type 0 where
+  pub some_piece : 1 ≤ label.pieces
+  pub width_in : length secret ≤ 16
+  pub secret_in : Below secret
+  pub random_in : Random (length secret) label.pieces random
+  pub buildable : Buildable label (values (label.pieces - 1) secret random label.piece)
 
 -- what the refusals before 12, none of them given, have made sure of
 pub record Ready (asked : Asked) (k : ℕ) (secret random : List ℕ) : Type 0 where

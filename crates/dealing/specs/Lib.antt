@@ -1,4 +1,5 @@
 pub mod Deal
+pub mod Given
 pub mod Dealt
 pub mod Inner
 pub mod Laws

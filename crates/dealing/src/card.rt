@@ -1,91 +1,64 @@
 // A holder's card, block by block, from the table of rows: the holder has a piece whose row does not mark the holder.
-ghost use Rattle.std.specs.Prelude.{◌≡◌, ◌++◌, ◌+◌, ◌*◌, ◌≤◌, length, take, drop};
+ghost use Rattle.std.specs.Prelude.{◌≡◌, ◌++◌, ◌+◌, ◌-◌, ◌*◌, ◌≤◌, length, take, drop};
 ghost use Rattle.answer.specs.Outcome.{outcome};
 ghost use Rattle.lists.specs.Over.{over};
 ghost use Rattle.answer.specs.Lent.{left};
-ghost use Rattle.dealing.specs.Deal.{block_for, card_over};
-ghost use Rattle.dealing.specs.Inner.{Ready, held_in, room_says};
+ghost use Rattle.field.specs.Pieces.{values};
+ghost use Rattle.block.specs.Written.{block_bytes};
+ghost use Rattle.dealing.specs.Deal.{asked_of, card_over};
+ghost use Rattle.dealing.specs.Given.{deal_in};
+ghost use Rattle.dealing.specs.Inner.{Ready, Writable, held_in, room_says};
 
-use crate::Asked;
+use crate::{Deal, shared_label};
 use answer::{Answer, Kind};
 use block::Label;
+use planning::Rows;
 
 // How many of the first k rows do not mark the holder.
-fn held_count(rows: &[[bool; 8]; 70], k: usize, holder: usize) -> usize
+fn held_count(rows: &Rows, k: usize, holder: usize) -> usize
     requires { (k ≤ 70) × (1 ≤ holder) × (holder ≤ 8) }
     ensures { result ≡ length (held_in rows.now holder k) }
 {
-    let column = holder - 1;
-    let mut count: usize = 0;
-    let mut i: usize = 0;
-    while i < k {
-        if !rows[i][column] {
-            count += 1;
-        }
-        i += 1;
-    }
-    count
+    rows[..k].iter().filter(|row| !row[holder - 1]).count()
 }
 
-// Writes the block of piece j from byte `at` on; the rest stays.
-fn write_piece(
-    asked: Asked,
-    k: usize,
-    secret: &[u16],
-    random: &[u16],
-    j: usize,
-    out: &mut [u8],
-    at: usize,
-)
+// Writes the block with this label from byte `at` on, with the values of the label's piece; the rest stays.
+pub fn write_piece(label: Label, secret: &[u16], random: &[u16], out: &mut [u8], at: usize)
     requires at_in_bounds { at + 512 ≤ length out.old }
-    requires ready { Ready asked k secret.now random.now }
-    requires le_j { (1 ≤ j) × (j ≤ k) }
-    ensures { let block = block_for asked k secret.now random.now j in
+    requires writable { Writable label secret.now random.now }
+    ensures { let block = block_bytes label (values (label.pieces - 1) secret.now random.now label.piece) in
         out.new ≡ take at out.old ++ over block (drop at out.old) }
 {
-    let width = secret.len();
-    let made = field::values_of(secret, random, k - 1, j as u16);
-    let label = Label {
-        mark: 1987,
-        number: asked.number as u16,
-        holder: asked.holder as u16,
-        people: asked.people as u16,
-        pieces: k as u16,
-        width: width as u16,
-        piece: j as u16,
-        year: asked.year as u16,
-        set: 0,
-    };
-    block::write_at(out, at, label, &made[..width]);
+    let made = field::values_of(secret, random, label.pieces as usize - 1, label.piece);
+    block::write_at(out, at, label, &made[..secret.len()]);
 }
 
 // Refusal 12, or the holder's card, written over the front of what is lent, and how many blocks it has.
-pub fn write_card(
-    rows: &[[bool; 8]; 70],
-    asked: Asked,
-    k: usize,
-    secret: &[u16],
-    random: &[u16],
-    out: &mut [u8],
-) -> Answer
-    requires { Ready asked k secret.now random.now }
-    ensures says { outcome result ≡ room_says (length (held_in rows.now asked.holder k)) (length out.old) }
-    ensures leaves { let card = card_over asked k secret.now random.now (held_in rows.now asked.holder k) in
+pub fn write_card(deal: Deal, holder: usize, k: usize, rows: &Rows, out: &mut [u8]) -> Answer
+    requires { let d = deal_in deal in
+        Ready (asked_of d holder) k d.secret d.random }
+    ensures says { outcome result ≡ room_says (length (held_in rows.now holder k)) (length out.old) }
+    ensures leaves { let d = deal_in deal.entry in
+        let card = card_over (asked_of d holder) k d.secret d.random (held_in rows.now holder k) in
         out.new ≡ left (outcome result) card out.old }
 {
-    let blocks = held_count(rows, k, asked.holder);
+    let blocks = held_count(rows, k, holder);
     if out.len() < 512 * blocks {
         return answer::refuse(Kind::Room, blocks, 0);
     }
-    let column = asked.holder - 1;
-    let mut at: usize = 0;
-    let mut row: usize = 0;
-    while row < k {
-        if !rows[row][column] {
-            write_piece(asked, k, secret, random, row + 1, out, at);
+    let shared = shared_label(deal, holder);
+    let mut at = 0;
+    for row in 0..k {
+        if !rows[row][holder - 1] {
+            let label = Label {
+                mark: 1987,
+                pieces: k as u16,
+                piece: row as u16 + 1,
+                ..shared
+            };
+            write_piece(label, deal.secret, deal.random, out, at);
             at += 512;
         }
-        row += 1;
     }
-    Answer::Done(blocks)
+    Ok(blocks)
 }

@@ -17,7 +17,7 @@ use Rattle.lists.proofs.FlatLaws.{Long, flat-length, flat-drop}
 use Rattle.answer.specs.Outcome.{Outcome, done, refused}
 use Rattle.answer.specs.Checks.{first_fail}
 use Rattle.answer.specs.Lent.{no_room, left}
-use Rattle.answer.proofs.CheckLaws.{append-lines, passed-done, passed_one, passed_none}
+use Rattle.answer.proofs.CheckLaws.{append-lines, passed-done, passed_one, passed_none, same_refusal}
 use Rattle.field.specs.Joined.{joined}
 use Rattle.field.specs.Secret.{column, secret_of}
 use Rattle.block.specs.declared.deal.DealWords.{DealWords}
@@ -231,5 +231,7 @@ module _ (slots : List ℕ) (o : Opening) (c : ℕ) (bs : List (List ℕ)) (who 
   -- with no block: SHORT
   pub says_none : length bs ≡ 0 → (room : ℕ) → ask_says slots o c room ≡ refused 20 0 o.pieces
   says_none e room =
-      ask_is room ∙ sym (is-short slots o c room (omega (arith, h.count, (ranged o good).pieces.0)))
+      ask_is room
+      ∙ same_refusal (from_short slots o c room) 0 (done o.width) 20 (distinct slots o c) o.pieces
+      (sym (is-short slots o c room (omega (arith, h.count, (ranged o good).pieces.0))))
       ∙ ap (λ (n : ℕ). refused 20 n o.pieces) (sym h.count ∙ e)

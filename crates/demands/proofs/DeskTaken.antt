@@ -29,7 +29,7 @@ use Rattle.desk.specs.Opens.{words, accepted, opening_of, alike}
 use Rattle.desk.specs.Slots.{start, in_slot, keeps, distinct, unlike}
 use Rattle.desk.specs.Lines.{other_values, front_lines, hand_lines, hand_slots, hand_says}
 use Rattle.desk.specs.History.{Client}
-use Rattle.desk.proofs.WordLaws.{is_client_lem, alike-year}
+use Rattle.desk.proofs.WordLaws.{is_client_lem}
 use Rattle.demands.specs.Demand2.{CardBlock, coefficients}
 use Rattle.demands.specs.DeskBlocks.{of_deal, OfCards}
 use Rattle.demands.proofs.BlockLaws.{block_true, card-block, label_is, mark-is, number_is}
@@ -57,6 +57,12 @@ card_of d f i l u b m =
       is_true = subst TrueBlock q (block_true d f i s.0 l u s.1 []);
     }
 
+-- an opening is alike to itself
+alike-self : (o : Opening) → alike o o ≡ true
+unfolding alike
+alike-self o =
+    rw (eq-eqb o.deal o.deal refl, eq-eqb o.people o.people refl, eq-eqb o.pieces o.pieces refl, eq-eqb o.width o.width refl, eq-eqb o.year o.year refl)
+
 -- the words of a label, as those of an opening
 abbrev as_words : Label → Opening
 as_words l = words l.number l.people l.pieces l.width l.year
@@ -70,7 +76,7 @@ module _ (d : Deal) (f : InRange d) (slots : List ℕ) (c : ℕ) (bs hs : List (
   same_deal_lem : alike (opening_of b) (of_deal d) ≡ true
   same_deal_lem =
       ap (λ (o : Opening). alike o (of_deal d)) words_are
-      ∙ sym (alike-year (of_deal d) (of_deal d) refl refl refl refl) ∙ eq-eqb d.year d.year refl
+      ∙ alike-self (of_deal d)
 
   front : Passed (front_lines (of_deal d) c b)
   unfolding front_lines

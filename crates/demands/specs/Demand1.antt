@@ -5,7 +5,7 @@ use mathlib.Core.List.{List, [], ◌∷◌, ◌++◌, flat_map}
 use Rattle.lists.specs.Run.{run}
 use Rattle.lists.specs.Some.{◌∈◌}
 use Rattle.lists.specs.Laws.{IsFirst}
-use Rattle.answer.specs.declared.Answer.{Answer}
+use Rattle.answer.specs.Outcome.{Answer}
 use Rattle.answer.specs.Outcome.{Outcome, outcome, done, refused, number}
 use Rattle.answer.specs.Checks.{Line, numbers}
 use Rattle.answer.specs.Lent.{no_room}

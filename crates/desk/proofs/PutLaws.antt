@@ -2,10 +2,10 @@
 -- Assumes nothing.
 use mathlib.Core.Path.{◌≡◌, sym, ap, ◌∙◌}
 use mathlib.Core.List.{List, [], ◌∷◌, ◌++◌}
-use Prim.Native.Nat.{ℕ, ◌+◌, ◌≤◌, ◌<◌}
+use Prim.Native.Nat.{ℕ, ◌+◌, ◌-◌, ◌≤◌, ◌<◌}
 use native.Mathlib.Numerals.{add-one}
 use native.Mathlib.Omega.{arith}
-use lib.ListN.{length, set, drop, take, replicate, length-replicate, replicate-append-replicate, take-append-drop}
+use lib.ListN.{length, set, drop, take, replicate, length-replicate}
 use lib.Seq.{take_at}
 use Rattle.lists.specs.Over.{over}
 use Rattle.lists.specs.Run.{run}
@@ -21,16 +21,11 @@ use Rattle.desk.proofs.StoreLaws.{written_more, written-again, written_one}
 use Rattle.desk.proofs.KeepLaws.{kept_small}
 use Rattle.desk.proofs.SlotLaws.{kept-length}
 
--- ---- zeros
-pub zeros-none : (at : ℕ) (old : List ℕ) → old ≡ over_at at (replicate 0 0) old
+-- ---- zeros, written over k numbers at once
+pub zeros_written : (at n k m : ℕ) (old ys : List ℕ) → k ≡ n → m ≡ n → ys ≡ replicate m 0 → take at old ++ (ys ++ drop k (drop at old)) ≡ over_at at (replicate n 0) old
 unfolding over_at over
-zeros-none at old = sym (take-append-drop at old)
-
-pub zeros-next : (at : ℕ) (old out : List ℕ) (i : ℕ) → at + i < length old → out ≡ over_at at (replicate i 0) old
-    → set out (at + i) 0 ≡ over_at at (replicate (i + 1) 0) old
-zeros-next at old out i l h =
-    ap (λ (r : List ℕ). set r (at + i) 0) h ∙ written_more at (replicate i 0) old i 0 (length-replicate {A = ℕ} i 0) l
-    ∙ ap (λ (r : List ℕ). over_at at r old) (replicate-append-replicate {A = ℕ} i 1 0)
+zeros_written at n k m old ys e f y =
+    rw (e, y, f) (ap (λ (j : ℕ). take at old ++ (replicate n 0 ++ drop j (drop at old))) (sym (length-replicate {A = ℕ} n 0)))
 
 -- ---- the mark and the values of a block
 pub kept-first : (at : ℕ) (b old : List ℕ) → at < length old → set old at 1 ≡ over_at at (kept b 0) (set old at 1)
@@ -41,16 +36,26 @@ pub kept_last : (at : ℕ) (b old : List ℕ) (w : ℕ) → at < length old → 
 unfolding kept
 kept_last at b old w l = written-again at 1 (run (λ i. word_at b (7 + i)) 1 w) old 1 l
 
-pub kept_next : (at : ℕ) (b old out : List ℕ) (i v : ℕ) → at + (i + 1) < length old → v ≡ word_at b (8 + i) → out ≡ over_at at (kept b i) old
+one_more : (at : ℕ) (b old out : List ℕ) (i v : ℕ) → at + (i + 1) < length old → v ≡ word_at b (8 + i) → out ≡ over_at at (kept b i) old
     → set out (at + i + 1) v ≡ over_at at (kept b (i + 1)) old
 unfolding kept
-kept_next at b old out i v l e h =
+one_more at b old out i v l e h =
     let f : ℕ → ℕ = λ k. word_at b (7 + k) in
     let s : 7 + (1 + i) ≡ 8 + i = omega arith in
     let place : at + i + 1 ≡ at + (i + 1) = omega arith in
     let more : run f 1 (i + 1) ≡ run f 1 i ++ (v ∷ []) = ap (run f 1) (add-one i) ∙ run_end f 1 i ∙ ap (λ (y : ℕ). run f 1 i ++ (y ∷ [])) (ap (word_at b) s ∙ sym e) in
     ap (λ (n : ℕ). set out n v) place ∙ ap (λ (r : List ℕ). set r (at + (i + 1)) v) h
     ∙ written_more at (1 ∷ run f 1 i) old (i + 1) v (kept-length b i) l ∙ ap (λ (r : List ℕ). over_at at (1 ∷ r) old) (sym more)
+
+pub kept_next : (at : ℕ) (b old out : List ℕ) (i v : ℕ) → 1 ≤ i → at + i < length old → v ≡ word_at b (7 + i) → out ≡ over_at at (kept b (i - 1)) old
+    → set out (at + i) v ≡ over_at at (kept b (i + 1 - 1)) old
+kept_next at b old out i v f l e h =
+    let t : i + 1 - 1 ≡ i - 1 + 1 = omega arith in
+    let place : at + i ≡ at + (i - 1) + 1 = omega arith in
+    let word : 7 + i ≡ 8 + (i - 1) = omega arith in
+    ap (λ (n : ℕ). set out n v) place
+    ∙ one_more at b old out (i - 1) v (omega arith) (e ∙ ap (word_at b) word) h
+    ∙ ap (λ (n : ℕ). over_at at (kept b n) old) (sym t)
 
 -- ---- a column
 pub column-below : (slots : List ℕ) (o : Opening) (c i : ℕ) → AllKept slots o c → 1 ≤ i → i ≤ o.width → Below (column (value_in slots c) o.pieces i)

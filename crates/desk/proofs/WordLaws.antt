@@ -1,14 +1,16 @@
 -- The words of a client: what it is that they are accepted, what a sound desk stores, and which client a number is.
 -- Assumes nothing.
 use mathlib.Core.Path.{◌≡◌, refl, sym, ap, subst, ◌∙◌}
-use mathlib.Core.Bool.{Bool, true, false, cond, ◌&&◌, false≢true}
+use mathlib.Core.Bool.{Bool, true, false, cond, not, ◌&&◌, false≢true}
 use mathlib.Core.Logic.{◌⊎◌, ⊎_elim}
 use mathlib.Core.List.{List}
-use Prim.Native.Nat.{ℕ, ◌≤◌}
+use Prim.Native.Nat.{ℕ, zero, suc, ◌≤◌}
 use native.Mathlib.Omega.{arith}
 use lib.Dec.{eqb}
 use borrow.Author.Tests.{eqb-true, eq-eqb, ne_eqb, ltb-false}
-use Rattle.lists.specs.Places.{outside}
+use Rattle.std.specs.Prelude.{Option}
+use Rattle.std.specs.Option.{is_some}
+use Rattle.lists.specs.Places.{outside, placed}
 use Rattle.lists.proofs.Truth.{both, or_cases}
 use Rattle.lists.proofs.RangeLaws.{in_range}
 use Rattle.prime.specs.Prime.{too_large}
@@ -16,6 +18,7 @@ use Rattle.block.specs.Words.{word_at}
 use Rattle.block.specs.Deals.{deal_words, same_deal}
 use Rattle.desk.specs.declared.Opening.{Opening}
 use Rattle.desk.specs.Opens.{no_words, bad_word, is_client, accepted, reserved, opening_of, alike}
+use Rattle.desk.specs.Inner.{Small}
 use Rattle.desk.specs.History.{Client, first, second}
 
 pub client_of_lem : (c : ℕ) → is_client c ≡ true → Client c
@@ -86,6 +89,28 @@ module _ (o : Opening) where
           unfolding bad_word
           bad-none e = rw (a, b, c, d, e)
 
+pub small_of : (o : Opening) → accepted o ≡ true → Small o
+small_of o t = let r = ranged o t in record { pieces = r.pieces.1; width = r.width.1 }
+
+-- a word that was looked for and not found: the words are accepted
+pub placed_accepted : (a : ℕ) {r : Option ℕ} {b : Bool} → r ≡ placed a → is_some r ≡ not b → b ≡ eqb a 0
+placed_accepted zero {r} {b} e q = go b (sym q ∙ ap is_some e)
+  where
+    go : (x : Bool) → not x ≡ false → x ≡ true
+    go true h = refl
+    go false h = absurd (false≢true (sym h))
+placed_accepted (suc a) {r} {b} e q = go b (sym q ∙ ap is_some e) ∙ sym (ne_eqb (suc a) 0 (λ z. omega arith))
+  where
+    go : (x : Bool) → not x ≡ true → x ≡ false
+    go true h = absurd (false≢true h)
+    go false h = refl
+
+-- two openings that are compared word by word are alike as they stand
+pub same_alike : (x y : Opening) {b : Bool}
+    → b ≡ eqb x.deal y.deal && (eqb x.people y.people && (eqb x.pieces y.pieces && (eqb x.width y.width && eqb x.year y.year))) → b ≡ alike x y
+unfolding alike
+same_alike x y e = e
+
 -- ---- stored words: accepted ones, or none
 abbrev pub Stored : Opening → Type 0
 Stored o = (accepted o ≡ true) ⊎ (o ≡ no_words)
@@ -143,9 +168,3 @@ alike_deal b b' e f =
     )
     (bracketed (eqb (word_at b 2) (word_at b' 2)) (eqb (word_at b 4) (word_at b' 4)) (eqb (word_at b 5) (word_at b' 5)) (eqb (word_at b 6) (word_at b' 6))
     (eqb (word_at b 24) (word_at b' 24)))
-
--- all words but the last are the same: the last settles it
-pub alike-year : (x y : Opening) → x.deal ≡ y.deal → x.people ≡ y.people → x.pieces ≡ y.pieces → x.width ≡ y.width
-    → eqb x.year y.year ≡ alike x y
-unfolding alike
-alike-year x y a b c d = rw (eq-eqb x.deal y.deal a, eq-eqb x.people y.people b, eq-eqb x.pieces y.pieces c, eq-eqb x.width y.width d)

@@ -1,4 +1,4 @@
-// A desk with 70 slots for the pieces of two clients (SCOPE 5.2). The work is done by functions on values; the four calls over a lent state
+// A desk with 70 slots for the pieces of two clients (SCOPE 5.2). The work is done by functions on its parts; the four calls over a lent state
 // are thin, and take it apart. The definitions that the contracts cite are in specs/.
 #![tactic(auto)]
 
@@ -13,11 +13,11 @@ ghost use Rattle.desk.specs.Opens.{words, words_of};
 ghost use Rattle.desk.specs.Lines.{open_at, open_desk, hand_at, hand_desk, ask_at, ask_into, close_at, close_desk};
 
 use answer::Answer;
-pub use calls::{asked, closed, forgotten, fresh, handed, opened};
+pub use calls::{asked, closed, fresh, handed, opened};
 
 // The five words that a client opens with: words 2, 4, 5, 6 and 24 of its deal's blocks. All 0 where it is not open.
 #[repr(C)]
-#[derive(Clone, Copy)]
+#[derive(Clone, Copy, PartialEq, Eq)]
 pub struct Opening {
     pub deal: usize,
     pub people: usize,
@@ -42,13 +42,6 @@ pub struct Desk {
     pub clients: Clients,
 }
 
-// What a call is answered, and the clients' words after it.
-#[derive(Clone, Copy)]
-pub struct Step {
-    pub clients: Clients,
-    pub answer: Answer,
-}
-
 // The client opens with these five words, and so has `pieces` slots: k, and the words are stored.
 pub fn open(
     d: &mut Desk,
@@ -62,18 +55,21 @@ pub fn open(
     ensures { let new = words deal people pieces width year in
         (outcome result ≡ open_at d.old client new) × (d.new ≡ open_desk d.old client new) }
 {
-    let clients = d.clients;
-    let s = opened(clients, client, deal, people, pieces, width, year);
-    d.clients = s.clients;
-    s.answer
+    let new = Opening {
+        deal,
+        people,
+        pieces,
+        width,
+        year,
+    };
+    opened(&mut d.clients, client, new)
 }
 
 // The client hands in one block: how many of its pieces are kept then, this one among them.
 pub fn hand_in(d: &mut Desk, client: usize, block: &[u8]) -> Answer
     ensures { (outcome result ≡ hand_at d.old client block.now) × (d.new ≡ hand_desk d.old client block.now) }
 {
-    let clients = d.clients;
-    handed(&mut d.slots, clients, client, block)
+    handed(&mut d.slots, &d.clients, client, block)
 }
 
 // The client asks: the secret over the front of the lent words, and w. The desk is looked at and no more.
@@ -81,16 +77,12 @@ pub fn ask(d: &Desk, client: usize, out: &mut [u16]) -> Answer
     ensures { let desk = d.now in
         (outcome result ≡ ask_at desk client (length out.old)) × (out.new ≡ ask_into desk.slots (words_of desk client) client out.old) }
 {
-    let clients = d.clients;
-    asked(&d.slots, clients, client, out)
+    asked(&d.slots, &d.clients, client, out)
 }
 
 // The client closes: k; its words are 0 then, and so are its slots.
 pub fn close(d: &mut Desk, client: usize) -> Answer
     ensures { (outcome result ≡ close_at d.old client) × (d.new ≡ close_desk d.old client) }
 {
-    let clients = d.clients;
-    let after = forgotten(clients, client);
-    d.clients = after;
-    closed(&mut d.slots, clients, client)
+    closed(&mut d.slots, &mut d.clients, client)
 }

@@ -1,11 +1,12 @@
 // The store: where a piece lies, what is kept, and how it is written, joined and set to 0.
 ghost use Rattle.std.specs.Prelude.{◌≡◌, ◌+◌, ◌*◌, ◌≤◌, length, replicate};
 ghost use Rattle.lists.specs.Over.{over};
+ghost use Rattle.lists.specs.Places.{found};
 ghost use Rattle.field.specs.Joined.{joined};
 ghost use Rattle.field.specs.Lagrange.{weights_of};
 ghost use Rattle.field.specs.Secret.{column};
 ghost use Rattle.desk.specs.Slots.{start, region_start, over_at, value_in, keeps_at, distinct, unlike, kept, secret_for};
-ghost use Rattle.desk.specs.Inner.{AllKept};
+ghost use Rattle.desk.specs.Inner.{Slot, Small, AllKept};
 
 use crate::Opening;
 
@@ -31,68 +32,42 @@ pub fn region_start(client: usize, k: usize) -> usize
 
 // The slot that begins at `at` keeps a piece of w values.
 pub fn keeps(slots: &[u16; 1190], at: usize, w: usize) -> bool
-    requires { (at ≤ 1173) × (w ≤ 16) }
+    requires { Slot at w }
     ensures { result ≡ keeps_at slots.now at w }
 {
-    if slots[at] == 0 {
-        return false;
-    }
-    let mut i: usize = 1;
-    while i < w + 1 {
-        if 32748 < slots[at + i] {
-            return false;
-        }
-        i += 1;
-    }
-    true
+    slots[at] != 0 && (1..w + 1).all(|i| slots[at + i] <= 32748)
 }
 
 // How many of its pieces the client with these words keeps.
 pub fn distinct(slots: &[u16; 1190], o: Opening, client: usize) -> usize
-    requires { (o.pieces ≤ 70) × (o.width ≤ 16) }
+    requires { Small o }
     ensures { (result ≡ distinct slots.now o client) × (result ≤ o.pieces) }
 {
     let k = o.pieces;
     let w = o.width;
-    let mut found: usize = 0;
-    let mut j: usize = 0;
-    while j < k {
-        let at = start(client, j + 1);
-        if keeps(slots, at, w) {
-            found += 1;
-        }
-        j += 1;
-    }
-    found
+    (1..k + 1)
+        .filter(|j| keeps(slots, start(client, *j), w))
+        .count()
 }
 
-// The first of the w values in which the slot and the block differ, or 0.
-pub fn unlike(slots: &[u16; 1190], at: usize, w: usize, block: &[u8]) -> usize
-    requires at_bound { (at ≤ 1173) × (w ≤ 16) }
+// The slot and the block differ in one of the w values.
+pub fn unlike(slots: &[u16; 1190], at: usize, w: usize, block: &[u8]) -> bool
+    requires slot { Slot at w }
     requires in_bounds { 512 ≤ length block.now }
-    ensures { result ≡ unlike slots.now at w block.now }
+    ensures { result ≡ found (unlike slots.now at w block.now) }
 {
-    let mut i: usize = 1;
-    while i < w + 1 {
-        if slots[at + i] != block::word(block, 7 + i) {
-            return i;
-        }
-        i += 1;
-    }
-    0
+    (1..w + 1).any(|i| slots[at + i] != block::word(block, 7 + i))
 }
 
 // A mark and the w values of a block, from `at` on.
-pub fn put_piece(slots: &mut [u16], at: usize, block: &[u8], w: usize)
-    requires at_in_bounds { (at + 17 ≤ length slots.old) × (w ≤ 16) }
+pub fn put_piece(slots: &mut [u16; 1190], at: usize, block: &[u8], w: usize)
+    requires slot { Slot at w }
     requires in_bounds { 512 ≤ length block.now }
     ensures { slots.new ≡ over_at at (kept block.now w) slots.old }
 {
     slots[at] = 1;
-    let mut i: usize = 0;
-    while i < w {
-        slots[at + i + 1] = block::word(block, 8 + i);
-        i += 1;
+    for i in 1..w + 1 {
+        slots[at + i] = block::word(block, 7 + i);
     }
 }
 
@@ -101,11 +76,7 @@ pub fn put_zeros(slots: &mut [u16], at: usize, n: usize)
     requires { at + n ≤ length slots.old }
     ensures { slots.new ≡ over_at at (replicate n 0) slots.old }
 {
-    let mut i: usize = 0;
-    while i < n {
-        slots[at + i] = 0;
-        i += 1;
-    }
+    slots[at..at + n].fill(0);
 }
 
 // Value i of each piece 1 to k over the front of `values`, that of piece j at j - 1.
@@ -114,10 +85,8 @@ fn write_column(slots: &[u16; 1190], client: usize, k: usize, i: usize, values: 
     requires k_in_bounds { k ≤ length values.old }
     ensures { values.new ≡ over (column (value_in slots.now client) k i) values.old }
 {
-    let mut j: usize = 0;
-    while j < k {
+    for j in 0..k {
         values[j] = slots[start(client, j + 1) + i];
-        j += 1;
     }
 }
 
@@ -130,7 +99,7 @@ fn secret_word(
     i: usize,
     values: &mut [u16],
 ) -> u16
-    requires pieces_bound { (o.pieces ≤ 70) × (o.width ≤ 16) }
+    requires small { Small o }
     requires all_kept { AllKept slots.now o client }
     requires weights_value { weights.now ≡ weights_of o.pieces }
     requires le_i { (1 ≤ i) × (i ≤ o.width) }
@@ -145,7 +114,7 @@ fn secret_word(
 
 // Writes the secret of the client's pieces over the front of the output.
 pub fn write_secret(slots: &[u16; 1190], o: Opening, client: usize, out: &mut [u16])
-    requires pieces_bound { (o.pieces ≤ 70) × (o.width ≤ 16) }
+    requires small { Small o }
     requires all_kept { AllKept slots.now o client }
     requires width_in_bounds { o.width ≤ length out.old }
     ensures { out.new ≡ over (secret_for slots.now o client) out.old }
@@ -154,9 +123,7 @@ pub fn write_secret(slots: &[u16; 1190], o: Opening, client: usize, out: &mut [u
     let w = o.width;
     let weights = triangle::weights(k);
     let mut values = [0u16; 70];
-    let mut i: usize = 0;
-    while i < w {
+    for i in 0..w {
         out[i] = secret_word(slots, o, client, &weights, i + 1, &mut values);
-        i += 1;
     }
 }

@@ -1,7 +1,7 @@
 // The words of the clients: which are bad, whose are whose, and those of a block.
 ghost use Rattle.std.specs.Prelude.{◌≡◌, not, ◌≤◌, length};
-ghost use Rattle.lists.specs.Places.{outside};
-ghost use Rattle.desk.specs.Opens.{no_words, bad_word, is_client, other, words_in, opening_of, alike};
+ghost use Rattle.lists.specs.Places.{outside, placed};
+ghost use Rattle.desk.specs.Opens.{no_words, bad_word, accepted, is_client, other, words_in, opening_of};
 ghost use Rattle.desk.specs.Parts.{put};
 
 use crate::{Clients, Opening};
@@ -23,38 +23,40 @@ pub fn none() -> Opening
 fn outside(high: usize, v: usize) -> bool
     ensures { result ≡ outside high v }
 {
-    if v == 0 { true } else { high < v }
+    v == 0 || high < v
 }
 
-// The first of the five words that no true block has, or 0.
-pub fn bad_word(o: Opening) -> usize
-    ensures { result ≡ bad_word o }
+// The first of the five words that no true block has, if there is one.
+pub fn bad_word(o: Opening) -> Option<usize>
+    ensures { result ≡ placed (bad_word o) }
 {
-    let deal = o.deal;
-    if outside(32748, deal) {
-        return 2;
+    if outside(32748, o.deal) {
+        Some(2)
+    } else if outside(8, o.people) {
+        Some(4)
+    } else if outside(70, o.pieces) {
+        Some(5)
+    } else if outside(16, o.width) {
+        Some(6)
+    } else if 32748 < o.year {
+        Some(24)
+    } else {
+        None
     }
-    let people = o.people;
-    if outside(8, people) {
-        return 4;
-    }
-    let pieces = o.pieces;
-    if outside(70, pieces) {
-        return 5;
-    }
-    let width = o.width;
-    if outside(16, width) {
-        return 6;
-    }
-    let year = o.year;
-    if 32748 < year { 24 } else { 0 }
+}
+
+// An opening would take these words.
+pub fn accepted(o: Opening) -> bool
+    ensures { result ≡ accepted o }
+{
+    bad_word(o).is_none()
 }
 
 // Neither client 1 nor client 2.
 pub fn no_client(client: usize) -> bool
     ensures { result ≡ not (is_client client) }
 {
-    if client == 1 { false } else { client != 2 }
+    client != 1 && client != 2
 }
 
 // The other client.
@@ -65,22 +67,20 @@ pub fn other(client: usize) -> usize
 }
 
 // The words of the client.
-pub fn words_of(both: Clients, client: usize) -> Opening
-    ensures { result ≡ words_in both client }
+pub fn words_of(both: &Clients, client: usize) -> Opening
+    ensures { result ≡ words_in both.now client }
 {
     if client == 1 { both.one } else { both.two }
 }
 
-// The words of both, those of the client replaced.
-pub fn put(both: Clients, client: usize, new: Opening) -> Clients
-    ensures { result ≡ put both client new }
+// The words of the client are replaced.
+pub fn put(both: &mut Clients, client: usize, new: Opening)
+    ensures { both.new ≡ put both.old client new }
 {
     if client == 1 {
-        let two = both.two;
-        Clients { one: new, two: two }
+        both.one = new;
     } else {
-        let one = both.one;
-        Clients { one: one, two: new }
+        both.two = new;
     }
 }
 
@@ -101,23 +101,4 @@ pub fn opening_of(block: &[u8]) -> Opening
         width,
         year,
     }
-}
-
-// The five words are the same.
-pub fn alike(x: Opening, y: Opening) -> bool
-    ensures { result ≡ alike x y }
-{
-    if x.deal != y.deal {
-        return false;
-    }
-    if x.people != y.people {
-        return false;
-    }
-    if x.pieces != y.pieces {
-        return false;
-    }
-    if x.width != y.width {
-        return false;
-    }
-    x.year == y.year
 }

@@ -14,6 +14,7 @@ pub mod Table
 pub mod HidingLaws
 pub mod Pairing
 pub mod AddedLaws
+pub mod BackLaws
 pub mod SecretLaws
 pub mod SumLaws
 pub mod Renewing

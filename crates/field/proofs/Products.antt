@@ -4,10 +4,9 @@ use mathlib.Core.Path.{◌≡◌, refl, ap}
 use mathlib.Core.Logic.{◌≢◌, ◌⊎◌, inl, inr}
 use mathlib.Core.Bool.{Bool, true, false, cond}
 use mathlib.Core.List.{◌∷◌}
-use Prim.Native.Nat.{ℕ, zero, suc, ◌+◌, ◌*◌, ◌%◌, ◌≤◌, ◌<◌}
+use Prim.Native.Nat.{ℕ, zero, suc, ◌+◌, ◌-◌, ◌*◌, ◌%◌, ◌≤◌, ◌<◌}
 use native.Mathlib.Omega.{arith}
 use native.Mathlib.Nat.{pos_of_ne-zero}
-use native.Mathlib.Numerals.{add-one}
 use borrow.Author.Tests.{eqb-false, eq-eqb, ne_eqb}
 use lib.Dec.{eqb, lit<}
 use Rattle.prime.specs.Prime.{p, minus}
@@ -19,18 +18,22 @@ use Rattle.prime.proofs.Prime.{inverse-right, euclid}
 use Rattle.field.proofs.Sums.{plus_times}
 use Rattle.field.proofs.Loosened.{loose, factor}
 
--- ---- one turn of the loop: piece n + 1 is j, or it is another and f is n + 1 − x mod p
-pub product_skip : (j x n acc : ℕ) → n + 1 ≡ j → acc ≡ product j x n → acc ≡ product j x (n + 1)
+-- ---- one turn of the loop, which has gone over the pieces before i: piece i is j, or it is another and f is i − x mod p
+pub product_skip : (j x i acc : ℕ) → 1 ≤ i → i ≡ j → acc ≡ product j x (i - 1) → acc ≡ product j x (i + 1 - 1)
 unfolding product
-product_skip j x n acc h e =
-    let t : eqb (suc n) j ≡ true = eq-eqb (suc n) j (rw add-one at h) in
-    rw (add-one, t) e
+product_skip j x zero acc l h e = absurd (omega arith)
+product_skip j x (suc n) acc l h e =
+    let s : suc n - 1 ≡ n = omega arith in
+    let t : suc n + 1 - 1 ≡ suc n = omega arith in
+    rw (t, eq-eqb (suc n) j h) (rw s at e)
 
-pub product_turn : (j x n f acc : ℕ) → n + 1 ≢ j → f ≈ n + 1 + 32748 * x → acc ≡ product j x n → f * acc % p ≡ product j x (n + 1)
+pub product_turn : (j x i f acc : ℕ) → 1 ≤ i → i ≢ j → f ≈ i + 32748 * x → acc ≡ product j x (i - 1) → f * acc % p ≡ product j x (i + 1 - 1)
 unfolding product
-product_turn j x n f acc h g e =
-    let t : eqb (suc n) j ≡ false = ne_eqb (suc n) j (rw add-one at h) in
-    rw (add-one n, t) (mul≈₂ ((rw add-one at g) then flip (minus≈ (suc n) x)) (from≡ e)).same
+product_turn j x zero f acc l h g e = absurd (omega arith)
+product_turn j x (suc n) f acc l h g e =
+    let s : suc n - 1 ≡ n = omega arith in
+    let t : suc n + 1 - 1 ≡ suc n = omega arith in
+    rw (t, ne_eqb (suc n) j h) (mul≈₂ (g then flip (minus≈ (suc n) x)) (from≡ (rw s at e))).same
 
 pub product_small : (j x n : ℕ) → product j x n < p
 unfolding product

@@ -12,7 +12,8 @@ use Rattle.prime.specs.Prime.{p, minus, Below}
 use Rattle.field.specs.Joined.{diffs}
 use Rattle.field.specs.Differences.{firsts, alternating}
 use Rattle.prime.proofs.Mod.{minus-below}
-use Rattle.field.proofs.Sums.{below-take, below-append}
+use Rattle.field.proofs.Sums.{below-take, below-drop, below-append}
+use Rattle.field.proofs.BackLaws.{Front, front_taken}
 use Rattle.field.proofs.DifferenceLaws.{diffs-length, diffs-below, firsts-cons, firsts-none, alternating-cons, alternating-none}
 
 -- ---- the differences of the numbers from place i on; those before it stand
@@ -79,8 +80,8 @@ pub rowed_start : (old : List ℕ) → Below old → Rowed old old 0
 rowed_start old b = record { whole = refl; below = b; long = refl }
 
 -- one row more
-pub rowed_turn : (old row new : List ℕ) (m : ℕ) → m < length row → new ≡ differenced row (m + 1) → Rowed old row m → Rowed old new (m + 1)
-rowed_turn old row new m h e r =
+one_more : (old row new : List ℕ) (m : ℕ) → m < length row → new ≡ differenced row (m + 1) → Rowed old row m → Rowed old new (m + 1)
+one_more old row new m h e r =
     let s : suc m - 1 ≡ m = omega arith in
     let y = get_or row m 0 in
     let n : new ≡ take (suc m) row ++ diffs (drop m row) = e ∙ rw (add-one m, s) in
@@ -98,6 +99,13 @@ rowed_turn old row new m h e r =
       long = ap length n ∙ length-append (take (suc m) row) (diffs (drop m row)) ∙ omega (arith, k, d, length-drop (suc m) row, r.long);
     }
 
+pub rowed_turn : (old row new : List ℕ) (m : ℕ) → 1 ≤ m → m ≤ length row → new ≡ differenced row m → Rowed old row (m - 1)
+    → Rowed old new (m + 1 - 1)
+rowed_turn old row new m l h e r =
+    let s : m - 1 + 1 ≡ m = omega arith in
+    let t : m + 1 - 1 ≡ m - 1 + 1 = omega arith in
+    rw t (one_more old row new (m - 1) (omega arith) (rw s e) r)
+
 -- all rows
 pub rowed_end : (old row : List ℕ) (m : ℕ) → length row ≤ m → Rowed old row m → row ≡ firsts old
 rowed_end old row m h r = sym (r.whole ∙ rw (take_all m row h, drop_of_length-le row {i = m} h, firsts-none) (append-nil row))
@@ -107,15 +115,23 @@ pub record Summing (row : List ℕ) (i sum : ℕ) : Type 0 where
   pub is : sum ≡ alternating (drop i row)
   pub small : sum < p
 
-pub summing_start : (row : List ℕ) → Summing row (length row) 0
-summing_start row = record { is = rw (drop-length row) (sym alternating-none); small = omega arith }
+pub summing_start : (row left : List ℕ) → left ≡ row → Summing row (length left) 0
+summing_start row left e = record { is = rw (e, drop-length row) (sym alternating-none); small = omega arith }
 
-pub summing_turn : (row : List ℕ) (i sum v : ℕ) → 1 ≤ i → i ≤ length row → v ≡ minus (get_or row (i - 1) 0) sum → Summing row i sum → Summing row (i - 1) v
-summing_turn row zero sum v l h e s = absurd (not-suc-le-zero l)
-summing_turn row (suc j) sum v l h e s =
-    let t : suc j - 1 ≡ j = omega arith in
-    let f : v ≡ minus (get_or row j 0) sum = e ∙ rw t in
-    record {
-      is = rw t (rw (drop-cons row j 0 (omega arith)) (f ∙ ap (minus (get_or row j 0)) s.is ∙ sym (alternating-cons (get_or row j 0) (drop (suc j) row))));
-      small = rw f (minus-below (get_or row j 0) sum);
-    }
+-- the number that a turn takes is below p
+pub front_below : (row left less : List ℕ) (x : ℕ) → left ≡ less ++ x ∷ [] → Front row left → Below row → x < p
+front_below row left less x t f b =
+    let e : drop (length less) row ≡ x ∷ drop (length left) row = front_taken row left less x t f in
+    let h : get_or (drop (length less) row) 0 0 < p = (below-drop (length less) row b).each 0 in
+    rw e at h
+
+pub summing_turn : (row left less : List ℕ) (x sum v : ℕ) → left ≡ less ++ x ∷ [] → Front row left → v ≡ minus x sum
+    → Summing row (length left) sum → Summing row (length less) v
+summing_turn row left less x sum v t f e s = record {
+  is = rw (front_taken row left less x t f) (e ∙ ap (minus x) s.is ∙ sym (alternating-cons x (drop (length left) row)));
+  small = rw e (minus-below x sum);
+}
+
+-- none is left
+pub summing_end : (row left : List ℕ) (sum : ℕ) → length left ≡ 0 → Summing row (length left) sum → sum ≡ alternating row
+summing_end row left sum z s = s.is ∙ ap (λ (n : ℕ). alternating (drop n row)) z

@@ -70,9 +70,9 @@ product-most ys ws i l b w =
     let y : get_or ys i 0 ≤ 32748 = omega (arith, b.each i) in
     mul-le-mul y (weight-most (length ys) i ws l w)
 
-pub summed_turn : (ys ws : List ℕ) (i sum : ℕ) → i < length ys → Below ys → Weights (length ys) ws
+one_more : (ys ws : List ℕ) (i sum : ℕ) → i < length ys → Below ys → Weights (length ys) ws
     → Summed ys i sum → Summed ys (i + 1) (sum + get_or ys i 0 * get_or ws i 0)
-summed_turn ys ws i sum l b w t =
+one_more ys ws i sum l b w t =
     let k = length ys in
     record {
       whole = rw (weight-next k i ws l w) (regroup (get_or ys i 0) (lagrange_weight k (i + 1)) (weighed (lagrange_weight k) (i + 1 + 1) (drop (i + 1) ys))
@@ -86,6 +86,11 @@ summed_turn ys ws i sum l b w t =
 
     regroup : (y u r : ℕ) → sum + y * u + r ≡ sum + (u * y + r)
     regroup y u r = omega arith
+
+-- the piece and the weight of this turn
+pub summed_turn : (ys ws : List ℕ) (i n sum y u : ℕ) → n ≡ i + 1 → i < length ys → y ≡ get_or ys i 0 → u ≡ get_or ws i 0 → Below ys → Weights (length ys) ws
+    → Summed ys i sum → Summed ys n (sum + y * u)
+summed_turn ys ws i n sum y u m l e f b w t = rw (m, e, f) (one_more ys ws i sum l b w t)
 
 pub summed_end : (ys : List ℕ) (i sum : ℕ) → i ≡ length ys → length ys < p → Below ys → Summed ys i sum → sum % p ≡ joined ys
 summed_end ys i sum e l b t =

@@ -18,9 +18,7 @@ fn difference(row: &mut [u16], m: usize)
     requires below { Below row.old }
     ensures { row.new ≡ take m row.old ++ diffs (drop (m - 1) row.old) }
 {
-    let mut i = row.len();
-    while m < i {
-        i -= 1;
+    for i in (m..row.len()).rev() {
         row[i] = subtract(row[i], row[i - 1]);
     }
 }
@@ -31,9 +29,7 @@ fn write_firsts(row: &mut [u16])
     requires { Below row.old }
     ensures { row.new ≡ firsts row.old }
 {
-    let mut m: usize = 0;
-    while m < row.len() {
-        m += 1;
+    for m in 1..=row.len() {
         difference(row, m);
     }
 }
@@ -44,10 +40,8 @@ fn alternate(row: &[u16]) -> u16
     ensures { result ≡ alternating row.now }
 {
     let mut sum: u16 = 0;
-    let mut i = row.len();
-    while 0 < i {
-        i -= 1;
-        sum = subtract(row[i], sum);
+    for number in row.iter().rev() {
+        sum = subtract(*number, sum);
     }
     sum
 }

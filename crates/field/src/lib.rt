@@ -37,10 +37,8 @@ fn value_at(coefficients: &[u16], x: u16) -> u32
     ensures { result ≡ value coefficients.now x % p }
 {
     let mut acc: u64 = 0;
-    let mut i = coefficients.len();
-    while 0 < i {
-        i -= 1;
-        acc = lower(acc) * (x as u64) + coefficients[i] as u64;
+    for coefficient in coefficients.iter().rev() {
+        acc = lower(acc) * (x as u64) + *coefficient as u64;
     }
     (acc % 32749) as u32
 }
@@ -60,13 +58,10 @@ pub fn values_of(secret: &[u16], random: &[u16], q: usize, j: u16) -> [u16; 16]
     ensures { take (length secret.now) result ≡ values q secret.now random.now j }
 {
     let mut made = [0u16; 16];
-    let mut i: usize = 0;
-    while i < secret.len() {
-        let d = secret[i];
+    for (i, d) in secret.iter().enumerate() {
         let at = i * q;
         let end = at + q;
-        made[i] = piece_of(d, &random[at..end], j);
-        i += 1;
+        made[i] = piece_of(*d, &random[at..end], j);
     }
     made
 }
@@ -93,9 +88,7 @@ fn weight_of(k: usize, j: usize) -> u16
 {
     let mut above: usize = 1;
     let mut below: usize = 1;
-    let mut i: usize = 0;
-    while i < k {
-        i += 1;
+    for i in 1..k + 1 {
         if i != j {
             above = i * above % 32749;
             below = (i + (32749 - j)) * below % 32749;
@@ -110,10 +103,8 @@ pub fn weights(k: usize) -> [u16; 70]
     ensures { result ≡ weights_of k }
 {
     let mut table = [0u16; 70];
-    let mut j: usize = 0;
-    while j < k {
+    for j in 0..k {
         table[j] = weight_of(k, j + 1);
-        j += 1;
     }
     table
 }
@@ -126,10 +117,8 @@ pub fn join_word(pieces: &[u16], weights: &[u16; 70]) -> u16
     ensures { result ≡ joined pieces.now }
 {
     let mut sum: u64 = 0;
-    let mut i: usize = 0;
-    while i < pieces.len() {
-        sum += (pieces[i] as u64) * (weights[i] as u64);
-        i += 1;
+    for (piece, weight) in pieces.iter().zip(weights) {
+        sum += (*piece as u64) * (*weight as u64);
     }
     (sum % 32749) as u16
 }

@@ -4,8 +4,8 @@ use mathlib.Core.Path.{◌≡◌, refl, sym, ap, ◌∙◌}
 use mathlib.Core.Bool.{Bool, true, false, cond, not}
 use mathlib.Core.List.{List}
 use mathlib.Core.Logic.{⊎_elim}
-use Prim.Native.Nat.{ℕ, zero, suc, ◌+◌, ◌-◌, ◌*◌, ◌^◌, ◌≤◌, ◌<◌}
-use native.Mathlib.Nat.{eq-or-lt_of_le, le_of_suc-le-suc, pow-suc, mul-le-mul, mul-le-mul_right}
+use Prim.Native.Nat.{ℕ, zero, suc, ◌+◌, ◌-◌, ◌*◌, ◌%◌, ◌^◌, ◌≤◌, ◌<◌}
+use native.Mathlib.Nat.{eq-or-lt_of_le, le_of_suc-le-suc, mul-le-mul, mul-le-mul_right}
 use native.Mathlib.Numerals.{add-one}
 use native.Mathlib.Omega.{arith}
 use lib.Bits.{bit_and}
@@ -20,7 +20,7 @@ use Rattle.lists.proofs.ThoseLaws.{count_hit, count_miss, those-few, those-same}
 use Rattle.planning.specs.Sets.{worth, member}
 use Rattle.planning.proofs.SetLaws.{back, member_le, common_at, common_of}
 use Rattle.planning.proofs.LackLaws.{member_new, member-kept}
-use Rattle.holdings.specs.Holdings.{Holdings, list_of, owns, has, have}
+use Rattle.holdings.specs.Holdings.{Holdings, owns, has, have}
 use Rattle.holdings.specs.Inner.{set_of, holders_of, Holders, meets, have_by}
 use Rattle.holdings.proofs.HaveLaws.{has_of, has-at}
 
@@ -73,53 +73,46 @@ have_by_lem l sets g h =
     ap length (those-same (λ j. meets (at sets j) g) (has l g) 1 l.pieces
     (λ j a b. ap (λ (s : ℕ). meets s g) (h.right j a (omega arith)) ∙ meets-has l g j))
 
--- the holders do not hang on how many pieces are needed
-pub holders_any : {n m c : ℕ} {marks sets : List ℕ} (needed : ℕ) → Holders (list_of n m 0 marks) c sets → Holders (list_of n m needed marks) c sets
-unfolding owns
-holders_any needed h = record { count = h.count; right = h.right }
-
 -- ---- the loops
--- person i + 1 is next: worth w, with the mark for piece j at index a; the people before are gathered in s
-pub record Gathered (l : Holdings) (j i s w a : ℕ) : Type 0 where
-  pub next-worth : w ≡ 2 ^ i
-  pub next-mark : a ≡ i * l.pieces + (j - 1)
+-- the people 1 to i are gathered in s
+pub record Gathered (l : Holdings) (j i s : ℕ) : Type 0 where
   pub so_far : s ≡ set_of (λ x. owns l x j) i
 
-pub gather_start : {l : Holdings} {j : ℕ} → Gathered l j 0 0 1 (j - 1)
+pub gather_start : {l : Holdings} {j : ℕ} → Gathered l j 0 0
 unfolding set_of
-gather_start = record { next-worth = refl; next-mark = omega arith; so_far = refl }
+gather_start = record { so_far = refl }
 
-module _ {l : Holdings} {j i s w a : ℕ} (h : Gathered l j i s w a) where
+-- the next person's mark lies in the list
+pub mark_in : {n m i j : ℕ} → i < n → 1 ≤ j → j ≤ m → i * m + (j - 1) < n * m
+mark_in {n} {m} {i} {j} a b c =
+    let q : suc i * m ≤ n * m = mul-le-mul_right m a in
+    omega arith
+
+module _ {l : Holdings} {j i s : ℕ} (h : Gathered l j i s) where
   -- the next person's mark
-  here : owns l (suc i) j ≡ eqb (get_or l.marks a 0) 1
+  here : owns l (suc i) j ≡ eqb (get_or l.marks (i * l.pieces + (j - 1)) 0) 1
   unfolding owns
-  here = rw (back i, h.next-mark)
+  here = rw (back i)
 
-  gather_more : (x : ℕ) → cond (owns l (suc i) j) (worth (suc i)) 0 ≡ x → Gathered l j (i + 1) (s + x) (w * 2) (a + l.pieces)
+  gather_more : (x : ℕ) → cond (owns l (suc i) j) (worth (suc i)) 0 ≡ x → Gathered l j (i + 1) (s + x)
   unfolding set_of
-  gather_more x e = record {
-    next-worth = ap (λ (y : ℕ). y * 2) h.next-worth ∙ sym (pow-suc 2 i) ∙ ap (λ (y : ℕ). 2 ^ y) (sym (add-one i));
-    next-mark = omega (arith, h.next-mark);
-    so_far = rw (add-one i, e, h.so_far);
-  }
+  gather_more x e = record { so_far = rw (add-one i, e, h.so_far) }
 
-  pub gather_hit : get_or l.marks a 0 ≡ 1 → Gathered l j (i + 1) (s + w) (w * 2) (a + l.pieces)
-  gather_hit e = gather_more w (rw (here, eq-eqb _ _ e, back i, h.next-worth))
+  pub gather_hit : get_or l.marks (i * l.pieces + (j - 1)) 0 ≡ 1 → Gathered l j (i + 1) (s + 2 ^ i)
+  gather_hit e = gather_more (2 ^ i) (rw (here, eq-eqb _ _ e, back i))
 
-  pub gather_miss : (get_or l.marks a 0 ≡ 1 → ⊥) → Gathered l j (i + 1) s (w * 2) (a + l.pieces)
+  pub gather_miss : (get_or l.marks (i * l.pieces + (j - 1)) 0 ≡ 1 → ⊥) → Gathered l j (i + 1) s
   gather_miss n = let z : s + 0 ≡ s = omega arith in rw z at (gather_more 0 (rw (here, ne_eqb _ _ n)))
 
-  -- small enough to add
-  pub gather_small : (n : ℕ) → n ≤ 8 → i < n → (w ≤ 128) × (s < 128)
+  -- the worth is small enough to add, and to be made by a shift
+  pub gather_small : (n : ℕ) → n ≤ 8 → i < n → (2 ^ i ≤ 128) × (s < 128)
   gather_small n few m =
       let q : 2 ^ i ≤ 2 ^ 7 = pow_mono {j = 7} (omega arith) in
-      (omega (arith, h.next-worth), omega (arith, h.so_far, set_lt (λ x. owns l x j) i))
+      (omega arith, omega (arith, h.so_far, set_lt (λ x. owns l x j) i))
 
-  -- the mark lies in the list
-  pub gather_in : (n : ℕ) → i < n → 1 ≤ j → j ≤ l.pieces → a < n * l.pieces
-  gather_in n m b c =
-      let q : suc i * l.pieces ≤ n * l.pieces = mul-le-mul_right l.pieces m in
-      omega (arith, h.next-mark)
+-- a worth as a shift makes it
+pub worth_in : (i : ℕ) → 2 ^ i ≤ 128 → 1 * 2 ^ i % 65536 ≡ 2 ^ i
+worth_in i h = omega arith
 
 -- n people's marks are few
 pub marks-few : (n m : ℕ) → n ≤ 8 → m ≤ 70 → n * m ≤ 560

@@ -2,6 +2,7 @@
 -- and a mark for each person and piece. The rows of marks, one for each person, lie one after another. Assumes nothing.
 use Rattle.std.specs.Prelude.{Bool, ◌&&◌, List, ℕ, ◌+◌, ◌-◌, ◌*◌, eqb, length, get_or}
 use Rattle.lists.specs.Places.{first_in, found, those}
+use Rattle.holdings.specs.declared.list.Holdings.{Holdings as Lent}
 use Rattle.planning.specs.Sets.{member}
 
 -- the number of people, of pieces, and of pieces that are needed; the marks
@@ -14,6 +15,10 @@ pub record Holdings : Type 0 where
 -- the list of these four
 abbrev pub list_of : ℕ → ℕ → ℕ → List ℕ → Holdings
 list_of people pieces needed marks = record { people = people; pieces = pieces; needed = needed; marks = marks }
+
+-- a lent list as it is said here
+abbrev pub list_in : Lent → Holdings
+list_in l = list_of l.people l.pieces l.needed l.marks.now
 
 -- the mark of person i for piece j: i − 1 rows lie before that person's row
 abbrev pub mark : Holdings → ℕ → ℕ → ℕ

@@ -1,11 +1,13 @@
 -- What this room's own functions say to one another: the holders of each piece, as a set. No promise to a caller names these.
 -- Assumes nothing.
-use Rattle.std.specs.Prelude.{◌≡◌, Bool, cond, not, List, ℕ, zero, suc, ◌+◌, ◌≤◌, eqb, ltb, length}
+use Rattle.std.specs.Prelude.{Option, Some, None, ◌≡◌, Bool, cond, not, List, ℕ, zero, suc, ◌+◌, ◌≤◌, eqb, ltb, length}
 use Rattle.std.specs.Int.Bits.{bit_and}
 use Rattle.lists.specs.Places.{at, those}
 use Rattle.planning.specs.Sets.{worth}
 use Rattle.planning.specs.Groups.{authorised}
 use Rattle.holdings.specs.Holdings.{Holdings, owns}
+use Rattle.holdings.specs.declared.holders.Side.{Side}
+use Rattle.holdings.specs.declared.holders.Side.TheVariants.{Few, Many}
 use Rattle.holdings.specs.Judged.{way_by}
 
 -- the set of those of the people 1 to c for whom the test holds
@@ -33,3 +35,9 @@ have_by sets m g = length (those (λ j. meets (at sets j) g) 1 m)
 -- on which side a list with these holders fails for the group g
 unfoldable pub way_in : List ℕ → List ℕ → ℕ → ℕ → ℕ → ℕ
 way_in required sets m needed g = way_by (authorised required g) (ltb (have_by sets m g) needed)
+
+-- that side as the code holds it
+abbrev pub side_of : ℕ → Option Side
+side_of zero = None
+side_of (suc zero) = Some Few
+side_of (suc (suc w)) = Some Many

@@ -1,15 +1,16 @@
 -- What judging a holding list answers: planning's refusals, then 30 ROWS; else that the list suits the policy, or the lowest group for which
 -- it does not and on which side it fails there. Assumes nothing.
-use Rattle.std.specs.Prelude.{Bool, true, false, not, ◌||◌, List, [], ◌∷◌, ◌++◌, ℕ, zero, suc, ◌*◌, ◌^◌, eqb, ltb, length}
+use Rattle.std.specs.Prelude.{Result, Bool, true, false, not, ◌||◌, List, [], ◌∷◌, ◌++◌, ℕ, zero, suc, ◌*◌, ◌^◌, eqb, ltb, length}
 use Rattle.lists.specs.Places.{first_in, first_place, found, outside}
+use Rattle.answer.specs.declared.Refusal.{Refusal}
 use Rattle.answer.specs.declared.Kind.TheVariants.{Rows}
-use Rattle.answer.specs.Outcome.{Outcome, done, refused, number}
+use Rattle.answer.specs.Outcome.{Outcome, done, outcome_by}
 use Rattle.answer.specs.Checks.{Line, line, first_fail}
 use Rattle.planning.specs.Groups.{authorised}
 use Rattle.planning.specs.Policy.{Policy}
 use Rattle.planning.specs.Planned.{plan_lines}
-use Rattle.holdings.specs.declared.Judged.{Judged}
-use Rattle.holdings.specs.declared.Judged.TheVariants.{Suits, Few, Many, Refused}
+use Rattle.holdings.specs.declared.list.Verdict.{Verdict as Told}
+use Rattle.holdings.specs.declared.list.Verdict.TheVariants.{Suits, Few, Many}
 use Rattle.holdings.specs.Holdings.{Holdings, have}
 
 -- a list is out of order for n people: it is for other people, has no pieces or over 70, needs none or more than there are, has more or
@@ -61,9 +62,12 @@ judge_lines p l = plan_lines p ++ bad_rows p.people l ∷ []
 unfoldable pub judging : Policy → Holdings → Outcome Verdict
 judging p l = first_fail (judge_lines p l) (done (verdict p.people p.required l))
 
+-- a verdict as the code holds it
+abbrev pub told : Told → Verdict
+told Suits = suits
+told (Few g) = too_few g
+told (Many g) = too_many g
+
 -- what an answer says
-abbrev pub judged : Judged → Outcome Verdict
-judged Suits = done suits
-judged (Few g) = done (too_few g)
-judged (Many g) = done (too_many g)
-judged (Refused r) = refused (number r.kind) r.a r.b
+abbrev pub judged : Result Told Refusal → Outcome Verdict
+judged = outcome_by told

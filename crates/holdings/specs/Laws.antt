@@ -9,7 +9,9 @@ use Rattle.planning.specs.Sets.{member}
 use Rattle.planning.specs.Groups.{authorised, holds, piece_count}
 use Rattle.planning.specs.Policy.{Policy}
 use Rattle.planning.specs.Planned.{planned}
-use Rattle.holdings.specs.declared.Judged.{Judged}
+use Rattle.std.specs.Prelude.{Result}
+use Rattle.answer.specs.declared.Refusal.{Refusal}
+use Rattle.holdings.specs.declared.list.Verdict.{Verdict as Told}
 use Rattle.holdings.specs.Holdings.{Holdings, mark, has, have}
 use Rattle.holdings.specs.Judged.{wrong_rows, way, suits, too_few, too_many, judging, judged}
 use Rattle.holdings.specs.Own.{own}
@@ -87,4 +89,4 @@ FewestJudged = (p : Policy) (l : Holdings) (k : ℕ) → planned p ≡ done k �
 -- ---- one answer
 -- Equal outcomes, equal answers: the promise leaves one possible answer.
 abbrev pub JudgedOne : Type 0
-JudgedOne = (x y : Judged) → judged x ≡ judged y → x ≡ y
+JudgedOne = (x y : Result Told Refusal) → judged x ≡ judged y → x ≡ y

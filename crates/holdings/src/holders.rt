@@ -1,53 +1,46 @@
-// The holders of each piece, as a set; how many pieces a group has by these sets; the first group for which a list fails.
-ghost use Rattle.std.specs.Prelude.{◌≡◌, ◌*◌, ◌^◌, ◌≤◌, ◌<◌, ltb, length};
-ghost use Rattle.lists.specs.Places.{first_in, first_place, found};
-ghost use Rattle.holdings.specs.Holdings.{list_of};
-ghost use Rattle.holdings.specs.Inner.{holders_of, Holders, have_by, way_in};
+// The holders of each piece, as a set; how many pieces a group has by these sets; on which side a list fails for a group.
+ghost use Rattle.std.specs.Prelude.{◌≡◌, ◌*◌, ◌≤◌, ◌<◌, ltb, length, position};
+ghost use Rattle.holdings.specs.Holdings.{list_in};
+ghost use Rattle.holdings.specs.Inner.{holders_of, Holders, have_by, way_in, side_of};
 
-// The place of the first mark above 1, or 0.
-pub fn first_bad(marks: &[u8]) -> usize
-    ensures { result ≡ first_place (ltb 1) marks.now }
+use crate::Holdings;
+
+// A group for which a list fails has too few pieces, or enough that is not authorised.
+#[derive(Clone, Copy)]
+pub enum Side {
+    Few,
+    Many,
+}
+
+// The first mark above 1.
+pub fn first_bad(marks: &[u8]) -> Option<usize>
+    ensures { result ≡ position (ltb 1) marks.now }
 {
-    let mut i = 0;
-    while i < marks.len() {
-        if 1 < marks[i] {
-            return i + 1;
-        }
-        i += 1;
-    }
-    0
+    marks.iter().position(|&m| 1 < m)
 }
 
 // Who has piece j.
-fn holder_set(marks: &[u8], people: usize, pieces: usize, j: usize) -> u16
-    requires { (people ≤ 8) × (pieces ≤ 70) × (1 ≤ j) × (j ≤ pieces) × (length marks.now ≡ people * pieces) }
-    ensures { result ≡ holders_of (list_of people pieces 0 marks.now) j }
+fn holder_set(list: Holdings, j: usize) -> u16
+    requires { (list.people ≤ 8) × (list.pieces ≤ 70) × (1 ≤ j) × (j ≤ list.pieces) × (length list.marks.now ≡ list.people * list.pieces) }
+    ensures { result ≡ holders_of (list_in list.entry) j }
 {
     let mut set = 0u16;
-    let mut worth = 1u16;
-    let mut at = j - 1;
-    let mut i = 0;
-    while i < people {
-        if marks[at] == 1 {
-            set += worth;
+    for i in 0..list.people {
+        if list.marks[i * list.pieces + (j - 1)] == 1 {
+            set += 1 << i;
         }
-        worth *= 2;
-        at += pieces;
-        i += 1;
     }
     set
 }
 
 // The holders of each piece.
-pub fn holder_sets(marks: &[u8], people: usize, pieces: usize) -> [u16; 70]
-    requires { (people ≤ 8) × (pieces ≤ 70) × (length marks.now ≡ people * pieces) }
-    ensures { Holders (list_of people pieces 0 marks.now) pieces result }
+pub fn holder_sets(list: Holdings) -> [u16; 70]
+    requires { (list.people ≤ 8) × (list.pieces ≤ 70) × (length list.marks.now ≡ list.people * list.pieces) }
+    ensures { Holders (list_in list.entry) list.entry.pieces result }
 {
     let mut sets = [0u16; 70];
-    let mut j = 0;
-    while j < pieces {
-        sets[j] = holder_set(marks, people, pieces, j + 1);
-        j += 1;
+    for j in 0..list.pieces {
+        sets[j] = holder_set(list, j + 1);
     }
     sets
 }
@@ -58,53 +51,35 @@ fn have(sets: &[u16; 70], pieces: usize, g: u16) -> usize
     ensures { result ≡ have_by sets.now pieces g }
 {
     let mut count = 0;
-    let mut j = 0;
-    while j < pieces {
+    for j in 0..pieces {
         if sets[j] & g != 0 {
             count += 1;
         }
-        j += 1;
     }
     count
 }
 
-// On which side the list fails for the group g: 1 with too few pieces, 2 with enough, 0 on neither.
-pub fn way(required: &[u16], sets: &[u16; 70], pieces: usize, needed: usize, g: usize) -> usize
-    requires { (pieces ≤ 70) × (g < 256) }
-    ensures { result ≡ way_in required.now sets.now pieces needed g }
-{
-    let count = have(sets, pieces, g as u16);
-    let authorised = planning::authorised(required, g as u16);
-    if authorised {
-        if count < needed {
-            return 1;
-        }
-        return 0;
-    }
-    if count < needed {
-        return 0;
-    }
-    2
-}
-
-// The first group for which the list fails, or 0.
-pub fn first_wrong(
+// On which side the list fails for the group g.
+pub fn way(
     required: &[u16],
     sets: &[u16; 70],
-    people: usize,
     pieces: usize,
     needed: usize,
-) -> usize
-    requires { (people ≤ 8) × (pieces ≤ 70) }
-    ensures { result ≡ first_in (λ g. found (way_in required.now sets.now pieces needed g)) 1 (2 ^ people) }
+    g: usize,
+) -> Option<Side>
+    requires { (pieces ≤ 70) × (g < 256) }
+    ensures { result ≡ side_of (way_in required.now sets.now pieces needed g) }
 {
-    let size = planning::group_count(people);
-    let mut g = 1;
-    while g < size {
-        if way(required, sets, pieces, needed, g) != 0 {
-            return g;
+    let count = have(sets, pieces, g as u16);
+    if planning::authorised(required, g as u16) {
+        if count < needed {
+            Some(Side::Few)
+        } else {
+            None
         }
-        g += 1;
+    } else if count < needed {
+        None
+    } else {
+        Some(Side::Many)
     }
-    0
 }

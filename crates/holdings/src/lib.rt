@@ -2,90 +2,62 @@
 #![tactic(auto)]
 
 mod holders;
+mod list;
 
 ghost use Rattle.std.specs.Prelude.{◌≡◌, ◌≤◌};
-ghost use Rattle.answer.specs.Outcome.{done};
-ghost use Rattle.planning.specs.Policy.{policy_of};
-ghost use Rattle.holdings.specs.Holdings.{list_of};
-ghost use Rattle.holdings.specs.Judged.{wrong_rows, verdict, judging, judged};
+ghost use Rattle.planning.specs.Given.{lists_of};
+ghost use Rattle.holdings.specs.Holdings.{list_in};
+ghost use Rattle.holdings.specs.Judged.{wrong_rows, verdict, told, judging, judged};
 ghost use Rattle.holdings.specs.Laws.{InOrder};
 
-use answer::{Answer, Kind, Refusal};
-
-// The list suits; or the first group for which it does not, authorised with too few pieces, or not authorised with enough; or a refusal.
-#[derive(Clone, Copy)]
-pub enum Judged {
-    Suits,
-    Few(usize),
-    Many(usize),
-    Refused(Refusal),
-}
+use answer::{Kind, Refusal};
+use holders::Side;
+pub use list::{Holdings, Verdict};
+use planning::Policy;
 
 // The list is out of order for so many people.
-fn wrong_rows(people: usize, list_people: usize, pieces: usize, needed: usize, marks: &[u8]) -> bool
+fn wrong_rows(people: usize, list: Holdings) -> bool
     requires { people ≤ 8 }
-    ensures { result ≡ wrong_rows people (list_of list_people pieces needed marks.now) }
+    ensures { result ≡ wrong_rows people (list_in list.entry) }
 {
-    if list_people != people {
+    if list.people != people {
         return true;
     }
-    if pieces == 0 {
+    if list.pieces == 0 || 70 < list.pieces {
         return true;
     }
-    if 70 < pieces {
+    if list.needed == 0 || list.pieces < list.needed {
         return true;
     }
-    if needed == 0 {
+    if list.marks.len() != people * list.pieces {
         return true;
     }
-    if pieces < needed {
-        return true;
-    }
-    if marks.len() != people * pieces {
-        return true;
-    }
-    holders::first_bad(marks) != 0
+    holders::first_bad(list.marks).is_some()
 }
 
 // The verdict on a list in order.
-fn judge_list(required: &[u16], people: usize, pieces: usize, needed: usize, marks: &[u8]) -> Judged
-    requires { (people ≤ 8) × InOrder people (list_of people pieces needed marks.now) }
-    ensures { judged result ≡ done (verdict people required.now (list_of people pieces needed marks.now)) }
+fn judge_list(required: &[u16], people: usize, list: Holdings) -> Verdict
+    requires { (people ≤ 8) × InOrder people (list_in list) }
+    ensures { told result ≡ verdict people required.now (list_in list.entry) }
 {
-    let sets = holders::holder_sets(marks, people, pieces);
-    let g = holders::first_wrong(required, &sets, people, pieces, needed);
-    if g == 0 {
-        return Judged::Suits;
+    let sets = holders::holder_sets(list);
+    for g in 1..planning::group_count(people) {
+        match holders::way(required, &sets, list.pieces, list.needed, g) {
+            Some(Side::Few) => return Verdict::Few(g),
+            Some(Side::Many) => return Verdict::Many(g),
+            None => {}
+        }
     }
-    let way = holders::way(required, &sets, pieces, needed, g);
-    if way == 1 {
-        return Judged::Few(g);
-    }
-    Judged::Many(g)
+    Verdict::Suits
 }
 
 // Whether the holding list suits the policy.
-pub fn judge(
-    people: usize,
-    required: &[u16],
-    forbidden: &[u16],
-    list_people: usize,
-    pieces: usize,
-    needed: usize,
-    marks: &[u8],
-) -> Judged
-    ensures { let p = policy_of people required.now forbidden.now in
-        judged result ≡ judging p (list_of list_people pieces needed marks.now) }
+pub fn judge(policy: Policy, list: Holdings) -> Result<Verdict, Refusal>
+    ensures { judged result ≡ judging (lists_of policy.entry) (list_in list.entry) }
 {
-    if let Answer::Refused(r) = planning::check(people, required, forbidden) {
-        return Judged::Refused(r);
+    planning::check(policy)?;
+    if wrong_rows(policy.people, list) {
+        return answer::refuse(Kind::Rows, 0, 0);
     }
-    if wrong_rows(people, list_people, pieces, needed, marks) {
-        return Judged::Refused(Refusal {
-            kind: Kind::Rows,
-            a: 0,
-            b: 0,
-        });
-    }
-    judge_list(required, people, pieces, needed, marks)
+    Ok(judge_list(policy.required, policy.people, list))
 }

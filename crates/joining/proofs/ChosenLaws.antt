@@ -2,10 +2,10 @@
 -- Assumes nothing.
 use mathlib.Core.Path.{◌≡◌, refl, sym, ap, subst, ◌∙◌}
 use mathlib.Core.Bool.{Bool, true, false}
-use mathlib.Core.Logic.{◌≢◌, ⊎_elim}
+use mathlib.Core.Logic.{⊎_elim}
 use mathlib.Core.List.{List}
-use Prim.Native.Nat.{ℕ, ◌+◌, ◌-◌, ◌*◌, ◌≤◌, ◌<◌}
-use native.Mathlib.Nat.{le_refl, eq-or-lt_of_le, pos_of_ne-zero}
+use Prim.Native.Nat.{ℕ, ◌+◌, ◌-◌, ◌*◌, ◌≤◌}
+use native.Mathlib.Nat.{le_refl}
 use native.Mathlib.Decide.{dec_le}
 use native.Mathlib.Omega.{arith}
 use lib.ListN.{length, take, drop, length-drop}
@@ -93,18 +93,6 @@ unfolding complete
 places-complete pile s p q =
     and_both (found_some {a = place_in pile s 1} (λ z. omega (arith, p, z)))
     (each_of (set_pieces pile s) (λ j. found (place_in pile s j)) (λ j l h. found_some {a = place_in pile s j} (λ z. omega (arith, q j l h, z))))
-
--- the pieces 1 to j of set s have a place
-pub record Places (pile : List ℕ) (s j : ℕ) : Type 0 where
-  pub place : (i : ℕ) → 1 ≤ i → i ≤ j → 1 ≤ place_in pile s i
-
-pub places_one : {pile : List ℕ} {s : ℕ} → place_in pile s 1 ≢ 0 → Places pile s 1
-places_one {pile} {s} h = record { place = λ i l m. let e : i ≡ 1 = omega arith in rw e (pos_of_ne-zero h) }
-
-pub places_more : {pile : List ℕ} {s j : ℕ} → Places pile s j → place_in pile s (j + 1) ≢ 0 → Places pile s (j + 1)
-places_more {pile} {s} {j} p h = record {
-  place = λ i l m. ⊎_elim (λ (e : i ≡ j + 1). rw e (pos_of_ne-zero h)) (λ (d : i < j + 1). p.place i l (omega arith)) (eq-or-lt_of_le m);
-}
 
 module _ {pile : List ℕ} (u : Unmixed pile) where
   -- where a piece is missing, block 1 speaks in its place

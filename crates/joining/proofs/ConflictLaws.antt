@@ -20,6 +20,7 @@ use Rattle.pile.specs.Blocks.{blocks, In, first_block}
 use Rattle.joining.specs.Pile.{own_width, set_at, pieces_at, piece_at, has_piece, place_of, set_place, value_of, differ_in}
 use Rattle.joining.specs.Checks.{other_values, other_count, contradicts, contradicted_by, conflict_at, conflict}
 use Rattle.joining.specs.Laws.{OneMark, unlike_set, unlike_piece}
+use Rattle.joining.specs.Inner.{unlike}
 use Rattle.joining.proofs.PileLaws.{same_set}
 
 -- two tests have one first place, where the second holds only where the first does, and holds at the first's first place
@@ -223,6 +224,37 @@ module _ (pile : List ℕ) (o : OneMark pile) (a : ℕ) (l : 1 ≤ a) (e : confl
 
   pub conflict-piece : unlike_set pile a ≡ false → refused 19 a (piece_first pile a) ≡ first_fail {A = ℕ} (conflict pile ∷ []) (done 0)
   conflict-piece u = line-is (piece_first pile a) (rw u at given_by)
+
+-- ---- the block that block a is unlike, by the first of its set and of its piece
+module _ (pile : List ℕ) (a : ℕ) where
+  at : (x y : Bool) → unlike_set pile a ≡ x → unlike_piece pile a ≡ y → unlike pile a ≡ cond x (set_first pile a) (cond y (piece_first pile a) 0)
+  unfolding unlike
+  at x y e q = rw (e, q)
+
+  pub unlike_apart : 1 ≤ unlike pile a → apart pile a ≡ true
+  unlike_apart l =
+      surely (λ e.
+      let n = neither (unlike_set pile a) (unlike_piece pile a) e in
+      omega (arith, l, at false false n.0 n.1))
+
+  pub unlike_alike : In pile a → unlike pile a ≡ 0 → apart pile a ≡ false
+  unlike_alike h z =
+      isn't (λ t.
+      ⊎_elim
+      (λ (u : unlike_set pile a ≡ true). omega (arith, (set_is pile a h).0.from, z, at true (unlike_piece pile a) u refl))
+      (λ (e : unlike_set pile a ≡ false).
+      let v : unlike_piece pile a ≡ true = ⊎_elim (λ u. absurd (never e u)) (λ v. v) (or_cases (unlike_set pile a) (unlike_piece pile a) t) in
+      omega (arith, (piece_is pile a h).0.from, z, at false true e v))
+      (decided (unlike_set pile a)))
+
+  pub conflict_unlike : OneMark pile → 1 ≤ a → conflict_at pile ≡ a → apart pile a ≡ true → refused 19 a (unlike pile a) ≡ first_fail {A = ℕ} (conflict pile ∷ []) (done 0)
+  conflict_unlike o l q t =
+      ⊎_elim
+      (λ (u : unlike_set pile a ≡ true). ap (refused 19 a) (at true (unlike_piece pile a) u refl) ∙ conflict-set pile o a l q u)
+      (λ (e : unlike_set pile a ≡ false).
+      let v : unlike_piece pile a ≡ true = ⊎_elim (λ u. absurd (never e u)) (λ v. v) (or_cases (unlike_set pile a) (unlike_piece pile a) t) in
+      ap (refused 19 a) (at false true e v) ∙ conflict-piece pile o a l q e)
+      (decided (unlike_set pile a))
 
 pub conflict_passes : (pile : List ℕ) → conflict_at pile ≡ 0 → done 0 ≡ first_fail {A = ℕ} (conflict pile ∷ []) (done 0)
 unfolding first_fail

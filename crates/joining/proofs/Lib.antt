@@ -3,6 +3,7 @@ pub mod PileLaws
 pub mod TableLaws
 pub mod ConflictLaws
 pub mod ChosenLaws
+pub mod SortedLaws
 pub mod CompleteLaws
 pub mod ShortLaws
 pub mod PlaceLaws

@@ -57,9 +57,6 @@ module _ {pile : List ℕ} (o : OneMark pile) (a b : ℕ) (h : In pile a) (g : I
   pub same_set : set_at pile a ≡ set_at pile b
   same_set = told.0
 
-  pub same_number : number_at pile a ≡ number_at pile b
-  same_number = told.1
-
 module _ {pile : List ℕ} (u : Unmixed pile) where
   pub ranges : (a : ℕ) → In pile a → Ranges (label_of (rest_from pile a))
   ranges a h = true_ranges (u.blocks_true.block a h.0 h.1)

@@ -1,48 +1,63 @@
--- SHORT: the pieces present, read off the table; when the line is given in either scheme, and what a pile of no blocks gets.
+-- SHORT: the pieces present, counted in the table; when the line is given in either scheme, and what a pile of no blocks gets.
 -- Assumes nothing.
 use mathlib.Core.Path.{◌≡◌, refl, ap, ◌∙◌}
 use mathlib.Core.Bool.{Bool, true, false, cond}
-use mathlib.Core.Logic.{◌≢◌, ⊎_elim}
+use mathlib.Core.Logic.{⊎_elim}
 use mathlib.Core.List.{List, [], ◌∷◌}
-use Prim.Native.Nat.{ℕ, ◌+◌, ◌-◌, ◌≤◌, ◌<◌}
+use Prim.Native.Nat.{ℕ, zero, suc, ◌+◌, ◌-◌, ◌≤◌, ◌<◌}
 use native.Mathlib.Nat.{suc-ne-zero}
+use native.Mathlib.Numerals.{add-one}
 use native.Mathlib.Omega.{arith}
+use Rattle.std.specs.Prelude.{count_by}
+use Rattle.std.proofs.lemmas.List.Sums.{count_by_more_yes, count_by_more_no}
 use lib.Dec.{eqb}
-use lib.ListN.{length, get_or}
+use lib.ListN.{length, get_or, take}
 use borrow.Author.Tests.{eq-eqb, ne_eqb, lt-ltb, le-ltb}
 use Rattle.lists.specs.Run.{run}
-use Rattle.lists.proofs.RunLaws.{run_at}
+use Rattle.lists.proofs.RunLaws.{run_length, run_at}
 use Rattle.answer.specs.Outcome.{Outcome, refused, number}
 use Rattle.answer.specs.Checks.{Line, first_fail}
 use Rattle.answer.proofs.CheckLaws.{given}
-use Rattle.lists.specs.Places.{first_from, found, those}
+use Rattle.lists.specs.Places.{first_from, found, at, those}
 use Rattle.lists.proofs.Truth.{decided, or_r}
-use Rattle.lists.proofs.FirstLaws.{found_some, found_none}
 use Rattle.lists.proofs.ThoseLaws.{those-same, count_hit, count_miss}
 use Rattle.block.specs.Words.{word_at}
 use Rattle.pile.specs.Blocks.{blocks, rest_from}
 use Rattle.pile.specs.Lines.{lines_from, every_block}
 use Rattle.joining.specs.Pile.{own_block, own_deal, in_sets, chosen, place_of, present}
 use Rattle.joining.specs.Checks.{mixed_at, conflict_at, few_pieces, no_set, short, pile_lines}
-use Rattle.joining.specs.Inner.{placed}
 
--- ---- one turn of the count: piece j + 1
+-- ---- the pieces present, counted in the front of the table
+-- the table has a block for piece j
+abbrev placed_in : List ℕ → ℕ → Bool
+placed_in table j = found (at table j)
+
 here : (j : ℕ) → 1 + j - 1 ≡ j
 here j = omega arith
 
-pub turn_found : (table : List ℕ) (j n : ℕ) → n ≡ length (those (placed table) 1 j) → get_or table j 0 ≢ 0 → n + 1 ≡ length (those (placed table) 1 (j + 1))
-turn_found table j n e h = count_hit (placed table) 1 j n e (rw (here j) (found_some h))
+counted : (table : List ℕ) (k : ℕ) → k ≤ length table → count_by found (take k table) ≡ length (those (placed_in table) 1 k)
+unfolding those
+counted table zero h = refl
+counted table (suc k) h =
+    let before = counted table k (omega arith) in
+    rw (add-one k) at (⊎_elim (one before) (none before) (decided (found (get_or table k 0))))
+  where
+    one : count_by found (take k table) ≡ length (those (placed_in table) 1 k) → found (get_or table k 0) ≡ true
+        → count_by found (take (k + 1) table) ≡ length (those (placed_in table) 1 (k + 1))
+    one q e = count_by_more_yes found table k 0 (omega arith) e ∙ count_hit (placed_in table) 1 k _ q (rw (here k) e)
 
-pub turn_missing : (table : List ℕ) (j n : ℕ) → n ≡ length (those (placed table) 1 j) → get_or table j 0 ≡ 0 → n ≡ length (those (placed table) 1 (j + 1))
-turn_missing table j n e h = count_miss (placed table) 1 j n e (rw (here j) (found_none h))
+    none : count_by found (take k table) ≡ length (those (placed_in table) 1 k) → found (get_or table k 0) ≡ false
+        → count_by found (take (k + 1) table) ≡ length (those (placed_in table) 1 (k + 1))
+    none q e = count_by_more_no found table k 0 (omega arith) e ∙ count_miss (placed_in table) 1 k _ q (rw (here k) e)
 
--- the pieces present, read off the table
-pub present-is : (pile table : List ℕ) (k : ℕ) → k ≡ (own_deal pile).pieces → k ≤ 70 → table ≡ run (place_of pile) 1 560 → those (placed table) 1 k ≡ present pile
+pub present-is : (pile table : List ℕ) (k : ℕ) → k ≡ (own_deal pile).pieces → k ≤ 70 → table ≡ run (place_of pile) 1 560
+    → count_by found (take k table) ≡ length (present pile)
 unfolding present
 present-is pile table k e h t =
-    those-same (placed table) (λ j. found (place_of pile j)) 1 k
-    (λ j l m. ap found (ap (λ (u : List ℕ). get_or u (j - 1) 0) t ∙ run_at (place_of pile) 560 j l (omega arith)))
-    ∙ ap (those (λ j. found (place_of pile j)) 1) e
+    let is : those (placed_in table) 1 k ≡ those (λ j. found (place_of pile j)) 1 k =
+    those-same (placed_in table) (λ j. found (place_of pile j)) 1 k
+    (λ j l m. ap found (ap (λ (u : List ℕ). get_or u (j - 1) 0) t ∙ run_at (place_of pile) 560 j l (omega arith))) in
+    counted table k (omega (arith, h, ap length t, run_length (place_of pile) 1 560)) ∙ ap length (is ∙ ap (those (λ j. found (place_of pile j)) 1) e)
 
 -- ---- the line, by the scheme
 short_by : (pile : List ℕ) (b : Bool) → in_sets pile ≡ b → short pile ≡ cond b (no_set pile) (few_pieces pile)

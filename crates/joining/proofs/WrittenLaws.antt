@@ -1,24 +1,20 @@
 -- What a joiner goes by once the pile and its room are checked, in whatever way it makes the secret; and that there is one answer and one content
 -- of the output for every joiner that keeps the promise. Assumes nothing.
-use mathlib.Core.Path.{◌≡◌, sym, ap, subst, ◌∙◌}
-use mathlib.Core.List.{List}
-use Prim.Native.Nat.{ℕ, ◌+◌, ◌-◌, ◌*◌, ◌≤◌}
+use mathlib.Core.Path.{◌≡◌, sym, ap, ◌∙◌}
+use mathlib.Core.List.{List, ◌++◌}
+use Prim.Native.Nat.{ℕ, ◌≤◌}
 use native.Mathlib.Omega.{arith}
-use lib.ListN.{length}
+use lib.ListN.{length, drop}
 use Rattle.lists.specs.Over.{over}
-use Rattle.lists.specs.Run.{run}
-use Rattle.lists.proofs.RunLaws.{run_length}
 use Rattle.answer.specs.Outcome.{done, refused}
 use Rattle.answer.proofs.Laws.{outcome_one}
 use Rattle.answer.proofs.LentLaws.{result_writes, refusal_keeps}
-use Rattle.field.specs.Lagrange.{Weights, weights_of}
-use Rattle.field.proofs.Laws.{weights_are}
-use Rattle.joining.specs.Pile.{chosen, place_of, own_pieces, own_width}
+use Rattle.field.proofs.SecretLaws.{secret-length}
+use Rattle.joining.specs.Pile.{own_pieces, own_width, value_at}
 use Rattle.joining.specs.Joined.{joining, joined_into}
 use Rattle.joining.specs.Secret.{secret}
 use Rattle.joining.specs.Inner.{Full}
 use Rattle.joining.specs.Laws as law
-use Rattle.joining.proofs.ChosenLaws.{own-fits}
 use Rattle.joining.proofs.SoundLaws.{given-joins}
 
 -- joining gives w
@@ -32,25 +28,12 @@ module _ (pile old : List ℕ) (w : ℕ) (e : joining pile (length old) ≡ done
   pub width_fits : w ≤ length old
   width_fits = let t = given-joins pile (length old) w e in omega (arith, t.is, t.fits)
 
-  -- the secret over the front of the output is all there is to write
-  pub written : (out : List ℕ) → out ≡ over (secret pile) old → out ≡ joined_into pile old
-  unfolding joined_into
-  written out h = h ∙ sym (result_writes (joining pile (length old)) w (secret pile) old e)
-
--- k places of the table from b on are taken
-module _ {pile : List ℕ} (f : Full pile) {b k : ℕ} (t : (b ≡ 8 * (chosen pile - 1)) × (k ≡ own_pieces pile)) where
-  pub taken_few : k ≤ 70
-  taken_few = omega (arith, t.1, f.pieces_in.1)
-
-  pub taken_fits : b + k ≤ 560
-  taken_fits = omega (arith, t.0, t.1, own-fits f)
-
-  pub taken_inside : (table : List ℕ) → table ≡ run (place_of pile) 1 560 → b + k ≤ length table
-  taken_inside table e = omega (arith, taken_fits, ap length e ∙ run_length (place_of pile) 1 560)
-
-  -- weights for as many pieces, from wherever they come, are those of the pile
-  pub own_weights : (ws : List ℕ) → ws ≡ weights_of k → Weights (own_pieces pile) ws
-  own_weights ws e = subst (λ n. Weights n ws) t.1 (subst (Weights k) (sym e) (weights_are k))
+  -- the secret over the first w words of the output is all there is to write
+  pub written : secret pile ++ drop w old ≡ joined_into pile old
+  unfolding joined_into over
+  written =
+      let is : w ≡ length (secret pile) = width_is ∙ sym (secret-length (value_at pile) (own_pieces pile) (own_width pile)) in
+      ap (λ (n : ℕ). secret pile ++ drop n old) is ∙ sym (result_writes (joining pile (length old)) w (secret pile) old e)
 
 -- joining refuses
 pub kept : (pile old : List ℕ) (m a b : ℕ) → joining pile (length old) ≡ refused m a b → old ≡ joined_into pile old

@@ -1,9 +1,9 @@
 -- What the functions after a check rest on: a pile that passed MIXED, and one that passed every check. Assumes nothing.
-use Rattle.std.specs.Prelude.{ℕ, ◌≤◌, ◌≡◌, Bool, cond, List, eqb}
+use Rattle.std.specs.Prelude.{ℕ, ◌≤◌, ◌≡◌, cond, List, eqb}
 use Rattle.lists.specs.Run.{run}
-use Rattle.lists.specs.Places.{found, at}
 use Rattle.pile.specs.Blocks.{blocks, In, deal_at, TrueBlocks}
-use Rattle.joining.specs.Pile.{pieces_at, own_deal, own_pieces, own_place}
+use Rattle.joining.specs.Pile.{set_at, pieces_at, piece_at, place_of, set_place, own_deal, own_pieces, own_place}
+use Rattle.joining.specs.Laws.{unlike_set, unlike_piece}
 
 -- a pile of true blocks, one at least, all of the pile's own deal
 pub record Unmixed (pile : List ℕ) : Type 0 where
@@ -21,10 +21,11 @@ pub record Full (pile : List ℕ) : Type 0 where
 abbrev pub own_places : List ℕ → List ℕ
 own_places pile = run (own_place pile) 1 (own_pieces pile)
 
--- the table has a block for piece j
-abbrev pub placed : List ℕ → ℕ → Bool
-placed table j = found (at table j)
-
 -- how many pieces block a says its set has; 0 where there is no block
 unfoldable pub said : List ℕ → ℕ → ℕ
 said pile a = cond (eqb a 0) 0 (pieces_at pile a)
+
+-- the block that block a is unlike: the first of its set, where that one says another number of pieces, else the first of its piece, where its values are
+-- others; or 0
+unfoldable pub unlike : List ℕ → ℕ → ℕ
+unlike pile a = cond (unlike_set pile a) (set_place pile (set_at pile a)) (cond (unlike_piece pile a) (place_of pile (piece_at pile a)) 0)

@@ -2,7 +2,7 @@
 -- Assumes nothing.
 use Rattle.std.specs.Prelude.{ℕ, ◌+◌, ◌-◌, ◌*◌, ◌%◌, ◌≤◌, ◌<◌, ◌≡◌, Bool, true, false, cond, not, ◌||◌, ◌≢◌, ◌↔◌, List, ◌++◌, eqb, length, get_or, drop}
 use Rattle.answer.specs.declared.Kind.TheVariants.{Room, Unread, Header, Mixed}
-use Rattle.answer.specs.declared.Answer.{Answer}
+use Rattle.answer.specs.Outcome.{Answer}
 use Rattle.answer.specs.Outcome.{outcome, done, refused, number}
 use Rattle.lists.specs.Laws.{IsFirst}
 use Rattle.lists.specs.Places.{found}

@@ -1,6 +1,7 @@
 // Which deal a pile is of: that of its largest heap, a heap being all blocks of one deal. One pass settles it for a pile of one deal; the heaps
 // of a mixed one are counted block by block.
 ghost use Rattle.std.specs.Prelude.{◌≡◌, ◌≤◌};
+ghost use Rattle.lists.specs.Places.{placed};
 ghost use Rattle.pile.specs.Blocks.{blocks};
 ghost use Rattle.joining.specs.Pile.{heap_of, own_block, own_deal};
 ghost use Rattle.joining.specs.Checks.{first_stray, mixed_at};
@@ -16,37 +17,23 @@ pub fn own_deal(pile: &[u8]) -> DealWords
     pile::deal_at(pile, 1)
 }
 
-// The first block outside the heap of the deal d, or 0.
-fn first_stray(pile: &[u8], d: DealWords) -> usize
-    ensures { result ≡ first_stray pile.now d }
+// The first block outside the heap of the deal d.
+#[tactic(auto, unfolding(pile::specs::Blocks::blocks))]
+fn first_stray(pile: &[u8], d: DealWords) -> Option<usize>
+    ensures { result ≡ placed (first_stray pile.now d) }
 {
-    let end = pile.len() / 512 + 1;
-    let mut a: usize = 1;
-    while a < end {
-        let here = pile::deal_at(pile, a);
-        let same = block::same_deal(here, d);
-        if same {
-            a += 1;
-        } else {
-            return a;
-        }
-    }
-    0
+    (1..pile.len() / 512 + 1).find(|a| !block::same_deal(pile::deal_at(pile, *a), d))
 }
 
 // How many blocks are of the deal d.
 fn heap_of(pile: &[u8], d: DealWords) -> usize
     ensures { result ≡ heap_of pile.now d }
 {
-    let end = pile.len() / 512 + 1;
     let mut size: usize = 0;
-    let mut a: usize = 1;
-    while a < end {
-        let here = pile::deal_at(pile, a);
-        if block::same_deal(here, d) {
+    for a in 1..pile.len() / 512 + 1 {
+        if block::same_deal(pile::deal_at(pile, a), d) {
             size += 1;
         }
-        a += 1;
     }
     size
 }
@@ -56,33 +43,24 @@ fn own_block(pile: &[u8]) -> usize
     requires { 1 ≤ blocks pile.now }
     ensures { result ≡ own_block pile.now }
 {
-    let end = pile.len() / 512 + 1;
-    let first = pile::deal_at(pile, 1);
-    let mut most = heap_of(pile, first);
     let mut own: usize = 1;
-    let mut a: usize = 2;
-    while a < end {
-        let here = pile::deal_at(pile, a);
-        let size = heap_of(pile, here);
+    let mut most = heap_of(pile, pile::deal_at(pile, 1));
+    for a in 2..pile.len() / 512 + 1 {
+        let size = heap_of(pile, pile::deal_at(pile, a));
         if most < size {
             most = size;
             own = a;
         }
-        a += 1;
     }
     own
 }
 
-// The first block that is not of the pile's own deal, or 0. Where all are of the first one's deal, no heap is counted.
-pub fn mixed_at(pile: &[u8]) -> usize
+// The first block that is not of the pile's own deal. Where all are of the first one's deal, no heap is counted.
+pub fn mixed_at(pile: &[u8]) -> Option<usize>
     requires { 1 ≤ blocks pile.now }
-    ensures { result ≡ mixed_at pile.now }
+    ensures { result ≡ placed (mixed_at pile.now) }
 {
-    let first = pile::deal_at(pile, 1);
-    if first_stray(pile, first) == 0 {
-        return 0;
-    }
+    first_stray(pile, pile::deal_at(pile, 1))?;
     let own = own_block(pile);
-    let largest = pile::deal_at(pile, own);
-    first_stray(pile, largest)
+    first_stray(pile, pile::deal_at(pile, own))
 }

@@ -1,19 +1,23 @@
 -- Joining to a key is joining with room for sixteen words, then unpacking: every secret fits, so ROOM of the words is never given. And a key's
 -- words, at most 8191, are never too large for dealing. Assumes nothing.
 use mathlib.Core.Path.{◌≡◌, refl, sym, ap, ◌∙◌}
-use mathlib.Core.Logic.{◌≢◌}
+use mathlib.Core.Logic.{◌≢◌, ⊎_elim}
+use Rattle.std.specs.Prelude.{Result, Ok, Err, IfOk}
+use Rattle.std.proofs.lemmas.Result.{IfOk-at_ok}
+use Rattle.answer.specs.declared.Refusal.{Refusal}
+use Rattle.lists.proofs.Truth.{same_or_not}
 use mathlib.Core.List.{List, [], ◌∷◌}
 use Prim.Native.Nat.{ℕ}
 use lib.ListN.{length, take}
 use borrow.Author.Tests.{eq-eqb, ne_eqb}
-use Rattle.answer.specs.Outcome.{Outcome, done, refused}
+use Rattle.answer.specs.Outcome.{Outcome, done, refused, outcome_by}
 use Rattle.answer.specs.Checks.{first_fail}
 use Rattle.answer.specs.Lent.{no_room, left}
 use Rattle.answer.specs.Laws.{Passed}
 use Rattle.answer.proofs.CheckLaws.{append-lines, passed-done, done-passed, same_refusal, never_both}
 use Rattle.answer.proofs.LentLaws.{room-given}
-use Rattle.packing.specs.Key.{unpacked, packed_words, unpack_lines, unpacking, unpacked_into}
-use Rattle.packing.proofs.SayLaws.{words-made}
+use Rattle.packing.specs.Key.{unpacked, packed_words, packing, unpack_lines, unpacking, unpacked_into}
+use Rattle.packing.proofs.SayLaws.{words-made, says-secret, says-packed}
 use Rattle.joining.specs.Pile.{own_width}
 use Rattle.joining.specs.Checks.{pile_lines}
 use Rattle.joining.specs.Joined.{join_lines, joining}
@@ -28,9 +32,22 @@ pub ten-words : (key : List ℕ) → length key ≡ 16 → packed_words key ≡ 
 unfolding key_secret
 ten-words key e = words-made key e ∙ rw (eq-eqb (length key) 16 e)
 
-pub no_words_lem : (key words : List ℕ) → length key ≢ 16 → take 0 words ≡ key_secret key
-unfolding key_secret take
-no_words_lem key words h = rw (ne_eqb (length key) 16 h)
+pub no_words : (key : List ℕ) → length key ≢ 16 → [] ≡ key_secret key
+unfolding key_secret
+no_words key h = rw (ne_eqb (length key) 16 h)
+
+-- what was packed, or what could not be
+module _ (key : List ℕ) {r : Result (List ℕ) Refusal} (says : outcome_by (λ _. 10) r ≡ packing key) where
+  pub packed-dealt : {words : List ℕ} → IfOk r (λ ws. ws ≡ packed_words key) → r ≡ Ok words → words ≡ key_secret key
+  packed-dealt {words} h q =
+      ⊎_elim (λ (e : length key ≡ 16). IfOk-at_ok (λ (ws : List ℕ). ws ≡ packed_words key) q h ∙ ten-words key e)
+      (λ (n : length key ≢ 16). never_both (sym (ap (outcome_by (λ _. 10)) q) ∙ says ∙ says-secret key n))
+      (same_or_not (length key) 16)
+
+  pub none-dealt : {e : Refusal} → r ≡ Err e → [] ≡ key_secret key
+  none-dealt q =
+      ⊎_elim (λ (e : length key ≡ 16). never_both (sym (says-packed key e) ∙ sym says ∙ ap (outcome_by (λ _. 10)) q)) (λ (n : length key ≢ 16). no_words key n)
+      (same_or_not (length key) 16)
 
 -- ---- joining to a key
 module _ (pile : List ℕ) where

@@ -10,14 +10,14 @@ use lib.ListN.{length, get_or}
 use borrow.Author.Tests.{le-ltb, eqb-true, eqb-false, not-true, not-false}
 use Rattle.lists.specs.Places.{found, outside, first_place, at}
 use Rattle.lists.specs.Some.{some}
-use Rattle.lists.proofs.FirstLaws.{first-all, found_none}
+use Rattle.lists.proofs.FirstLaws.{first-all, found_none, some_placed}
 use Rattle.prime.specs.Prime.{too_large}
 use Rattle.answer.specs.declared.Kind.TheVariants.{Secret}
 use Rattle.answer.specs.Outcome.{Outcome, done, refused}
 use Rattle.answer.specs.Checks.{Line, line, pick, first_fail}
 use Rattle.answer.specs.Lent.{no_room}
 use Rattle.answer.specs.Laws.{Passed}
-use Rattle.answer.proofs.CheckLaws.{not_given, same_after, append-lines, passed_both, passed-done}
+use Rattle.answer.proofs.CheckLaws.{same_refusal, not_given, same_after, append-lines, passed_both, passed-done}
 use Rattle.answer.proofs.WhichLaws.{Without, Gives, none-gives, after-others, one_of_two, first-is}
 use Rattle.packing.specs.Key.{KeyWords, packed, wrong_at, first_wrong, not_key, unpacking}
 use Rattle.packing.proofs.PackLaws.{packed-ten, packed-small}
@@ -100,16 +100,25 @@ not_words words room a b e w =
     none-gives 23 (no_room 16 16 room ∷ []) 16 a b
     (sym (append-lines (not_key words) (no_room 16 16 room ∷ []) (done 16) ∙ passed-done (not_key words) _ ((not_key_means words).1 w)) ∙ e) refl
 
+-- what NOTKEY's lines refuse, unpacking refuses
+not_unpacked : (words : List ℕ) (room a b : ℕ) → first_fail {A = ℕ} (not_key words) (done 0) ≡ refused 23 a b → unpacking words room ≡ refused 23 a b
+unfolding unpacking
+not_unpacked words room a b e =
+    append-lines (not_key words) (no_room 16 16 room ∷ []) (done 16) ∙ same_refusal (not_key words) 0 _ 23 a b e
+
 says_not : (words : List ℕ) (room : ℕ) → (KeyWords words → ⊥) → (a : ℕ) × (b : ℕ) × (unpacking words room ≡ refused 23 a b)
 says_not words room n = ten (eqb (length words) 10) refl
   where
+    pos_of : {f : ℕ} → (f ≡ 0 → ⊥) → 1 ≤ f
+    pos_of h = omega arith
+
     right : (e : length words ≡ 10) (x : Bool) → eqb (first_wrong words) 0 ≡ x → (a : ℕ) × (b : ℕ) × (unpacking words room ≡ refused 23 a b)
     right e true z = absurd (n (no_wrong words e (eqb-true _ 0 z)))
-    right e false z = (first_wrong words, 0, says_wrong words room e (eqb-false _ 0 z))
+    right e false z = (let f = first_wrong words in let n : 1 ≤ f = pos_of (eqb-false f 0 z) in (f, 0, not_unpacked words room f 0 (says_wrong words e refl (sym (some_placed refl n)))))
 
     ten : (x : Bool) → eqb (length words) 10 ≡ x → (a : ℕ) × (b : ℕ) × (unpacking words room ≡ refused 23 a b)
     ten true e = right (eqb-true _ 10 e) (eqb (first_wrong words) 0) refl
-    ten false e = (0, 0, says-few words room (eqb-false _ 10 e))
+    ten false e = (0, 0, not_unpacked words room 0 0 (says-few words (eqb-false _ 10 e)))
 
 pub not_key_exactly : law.NotKeyExactly
 not_key_exactly pile room = (

@@ -2,11 +2,12 @@
 -- Assumes nothing.
 use mathlib.Core.Path.{◌≡◌, refl, ap, ap₂, ◌∙◌}
 use mathlib.Core.Bool.{Bool, true, false, cond, not}
-use mathlib.Core.List.{List, [], ◌∷◌, ◌++◌}
+use mathlib.Core.List.{List, [], ◌∷◌, ◌++◌, append-nil}
 use native.Mathlib.Numerals.{add-one}
 use native.Mathlib.Omega.{arith}
-use Prim.Native.Nat.{ℕ, suc, ◌+◌, ◌*◌, ◌^◌, ◌≤◌, ◌<◌}
-use lib.ListN.{length, get_or, length-append}
+use Prim.Native.Nat.{ℕ, suc, ◌+◌, ◌-◌, ◌*◌, ◌^◌, ◌≤◌, ◌<◌}
+use lib.ListN.{length, take, get_or, length-append}
+use lib.Seq.{length-take-le, get_or-take}
 use Rattle.answer.specs.Outcome.{done}
 use Rattle.lists.specs.Places.{those}
 use Rattle.lists.proofs.ThoseLaws.{at_in, in_those, those-few, those-same}
@@ -15,8 +16,9 @@ use Rattle.planning.specs.Groups.{group_of, holds, marked}
 use Rattle.planning.specs.Policy.{Policy}
 use Rattle.planning.specs.Planned.{planned, planned_rows}
 use Rattle.planning.proofs.Laws.{accepted-listed, some-piece, rows_mean}
-use Rattle.print.specs.Lines.{spaced_all, feed, label, rising}
+use Rattle.print.specs.Lines.{spaced, spaced_all, feed, label, rising}
 use Rattle.print.proofs.LineLaws.{spaced-append, all-few, label-few, pair_few, rising-same, rising-few}
+use Rattle.listing.specs.Inner.{marked_numbers, marks_line}
 use Rattle.listing.specs.Listing.{people_label, pieces_label, piece_label, missing_label, holder_label, has_label, first_line, piece_line, holder_line, listing_by, listing}
 
 -- ---- one number more, one line more
@@ -29,6 +31,14 @@ marked_grows t i =
     let e : 1 + i ≡ suc i = omega arith in
     rw (add-one i) (spaced-append (those t 1 i) (cond (t (1 + i)) ((1 + i) ∷ []) [])
     ∙ ap (λ (n : ℕ). spaced_all (those t 1 i) ++ spaced_all (cond (t n) (n ∷ []) [])) e)
+
+pub marked_yes : (t : ℕ → Bool) (i : ℕ) → t (i + 1) ≡ true → marked_part t i ≡ spaced (i + 1)
+unfolding spaced_all
+marked_yes t i e = rw e (append-nil (spaced (i + 1)))
+
+pub marked_no : (t : ℕ → Bool) (i : ℕ) → t (i + 1) ≡ false → marked_part t i ≡ []
+unfolding spaced_all
+marked_no t i e = rw e
 
 -- ---- how long it is
 those-short : (t : ℕ → Bool) (w n : ℕ) → n < 10 ^ suc w → length (spaced_all (those t 1 n)) ≤ (w + 2) * length (those t 1 n)
@@ -96,6 +106,33 @@ same-listing lacks has lacks' has' n k p q =
 twice : (b : Bool) → b ≡ not (not b)
 twice true = refl
 twice false = refl
+
+-- ---- a line by its marks
+numbers-same : (marks : List Bool) (t : ℕ → Bool) (n : ℕ) → length marks ≡ n → ((i : ℕ) → i < n → get_or marks i false ≡ t (i + 1)) → marked_numbers marks ≡ those t 1 n
+numbers-same marks t n l e =
+    ap (those (λ i. get_or marks (i - 1) false) 1) l
+    ∙ those-same (λ i. get_or marks (i - 1) false) t 1 n
+    (λ i a b. let k : i - 1 + 1 ≡ i = omega arith in e (i - 1) (omega arith) ∙ ap t k)
+
+pub row_line : (row : List Bool) (people j : ℕ) → people ≤ length row
+    → marks_line piece_label j missing_label (take people row) ≡ piece_line (λ i. get_or row (i - 1) false) people j
+unfolding piece_line
+row_line row people j h =
+    ap (λ (ns : List ℕ). label piece_label j missing_label ++ spaced_all ns ++ feed)
+    (numbers-same (take people row) (λ i. get_or row (i - 1) false) people (length-take-le people row h)
+    (λ i l. let k : i + 1 - 1 ≡ i = omega arith in rw k (get_or-take people row i false l)))
+
+pub column_line : (rows : List (List Bool)) (has : List Bool) (pieces i : ℕ) → length has ≡ 70 → pieces ≤ 70
+    → ((j : ℕ) → j < 70 → get_or has j false ≡ not (get_or (get_or rows j []) i false))
+    → marks_line holder_label (i + 1) has_label (take pieces has) ≡ holder_line (λ j. not (marked rows j (i + 1))) pieces (i + 1)
+unfolding holder_line
+column_line rows has pieces i l h e =
+    ap (λ (ns : List ℕ). label holder_label (i + 1) has_label ++ spaced_all ns ++ feed)
+    (numbers-same (take pieces has) (λ j. not (marked rows j (i + 1))) pieces (length-take-le pieces has (omega arith))
+    (λ j m.
+    let k : j + 1 - 1 ≡ j = omega arith in
+    let n : i + 1 - 1 ≡ i = omega arith in
+    get_or-take pieces has j false m ∙ rw (k, n) (e j (omega arith))))
 
 -- ---- the table of an accepted policy gives its listing
 pub table-listing : (p : Policy) (k : ℕ) → planned p ≡ done k

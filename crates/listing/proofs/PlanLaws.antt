@@ -1,43 +1,29 @@
 -- From a text that was read to what is printed for it: 257 sets of a list are as good as all, and each answer has its lines.
 -- Assumes nothing.
 use borrow.Author.Tests.{lt-ltb, le-ltb}
-use mathlib.Core.Path.{◌≡◌, refl, sym, ap, ap₂, ◌∙◌}
-use mathlib.Core.Bool.{Bool, true, false}
+use mathlib.Core.Path.{◌≡◌, refl, sym, ap, ◌∙◌}
+use mathlib.Core.Bool.{Bool, true, false, not}
 use mathlib.Core.Logic.{⊎_elim}
 use mathlib.Core.List.{List}
 use native.Mathlib.Omega.{arith}
-use Prim.Native.Nat.{ℕ, ◌-◌, ◌≤◌, ◌<◌}
-use lib.ListN.{length, take, replicate, length-append, length-replicate}
-use lib.Seq.{take_all, take_at, length-take-le}
+use Prim.Native.Nat.{ℕ, ◌≤◌, ◌<◌}
+use lib.ListN.{length, take}
+use lib.Seq.{take_all, length-take-le}
 use Rattle.answer.specs.declared.Refusal.{Refusal}
-use Rattle.answer.specs.declared.Answer.TheVariants.{Done, Refused}
-use Rattle.answer.specs.Outcome.{Outcome, done, refused, number, outcome}
+use Rattle.std.specs.Prelude.{Result, Ok, Err}
+use Rattle.answer.specs.Outcome.{Outcome, done, refused, number, outcome_by}
 use Rattle.answer.specs.Checks.{pick, first_fail}
-use Rattle.answer.proofs.CheckLaws.{never_both}
 use Rattle.planning.specs.Policy.{Policy, policy_of}
-use Rattle.planning.specs.Planned.{people, long, list_lines, plan_lines, planned}
+use Rattle.planning.specs.declared.table.Plan.{Plan}
+use Rattle.planning.specs.Groups.{marked}
+use Rattle.planning.specs.Planned.{people, long, list_lines, plan_lines, planned, planned_rows}
+use Rattle.planning.proofs.Laws.{accepted-listed, some-piece}
+use Rattle.policy.specs.declared.PolicyText.{PolicyText}
+use Rattle.policy.specs.Policy.{Holds}
 use Rattle.print.specs.Lines.{refused_line}
 use Rattle.print.proofs.DecimalLaws.{below}
-use Rattle.policy.specs.declared.Sets.{Sets}
-use Rattle.policy.specs.declared.PolicyText.{PolicyText}
-use Rattle.policy.specs.Policy.{people_of, Keeps, Holds}
-use Rattle.listing.specs.Listing.{listing, answered, listed_plan, listed_policy}
-
--- ---- the sets that were kept
-pub kept-few : {sets : List ℕ} {kept : Sets} → Keeps sets kept → kept.count ≤ 257
-kept-few {sets} {kept} k =
-    ⊎_elim (λ (h : length sets < 257). omega (arith, k.counted, ap length (take_all 257 sets (omega arith))))
-    (λ (h : 257 ≤ length sets). omega (arith, k.counted, length-take-le 257 sets h)) (below (length sets) 257)
-
-pub kept-length : {sets : List ℕ} {kept : Sets} → Keeps sets kept → length kept.sets ≡ 257
-kept-length {sets} {kept} k =
-    let l = ap length k.filled ∙ length-append (take 257 sets) (replicate (257 - length sets) 0) in
-    ⊎_elim
-    (λ (h : length sets < 257). omega (arith, length-replicate {A = ℕ} (257 - length sets) 0, ap length (take_all 257 sets (omega arith))))
-    (λ (h : 257 ≤ length sets). omega (arith, length-replicate {A = ℕ} (257 - length sets) 0, length-take-le 257 sets h)) (below (length sets) 257)
-
-kept_sets : {sets : List ℕ} {kept : Sets} → Keeps sets kept → take kept.count kept.sets ≡ take 257 sets
-kept_sets {sets} {kept} k = ap (take kept.count) k.filled ∙ take_at (take 257 sets) _ kept.count (sym k.counted)
+use Rattle.listing.specs.Listing.{listing_by, listing, answered, listed_plan, listed_policy}
+use Rattle.listing.proofs.ListingLaws.{table-listing}
 
 -- ---- 257 sets are too many, as all of them are
 module _ (n : ℕ) where
@@ -89,26 +75,31 @@ pub plan_refused : (p : Policy) (m a b : ℕ) → planned p ≡ refused m a b �
 unfolding listed_plan
 plan_refused p m a b e = ap (λ (o : Outcome ℕ). answered o (listing p.people p.required)) e
 
--- ---- what is printed, by the answer of a text that was read
-done_by : (o : Outcome Policy) (held : PolicyText) (n : ℕ) → Holds o held → done n ≡ people_of o
-    → listed_policy o ≡ listed_plan (policy_of n (take held.required.count held.required.sets) (take held.forbidden.count held.forbidden.sets))
-done_by (done p) held n h e =
-    let same : p.people ≡ n = cc in
-    rw same (sym (ap₂ (λ (r f : List ℕ). listed_plan (policy_of n r f)) (kept_sets h.required) (kept_sets h.forbidden) ∙ first-sets n p.required p.forbidden))
-done_by (refused m a b) held n h e = never_both e
+-- ---- what is printed, by the answer of a text that was read, and by the answer of its plan
+pub read_not : (o : Outcome Policy) (r : Refusal) → Holds o (Err r) → listed_policy o ≡ refused_line (number r.kind) r.a r.b
+read_not (done p) r h = absurd h
+read_not (refused m a b) r h = sym (rw (h.0, h.1, h.2))
 
-pub read_done : {o : Outcome Policy} {held : PolicyText} (n : ℕ) → Holds o held → held.answer ≡ Done n
-    → listed_policy o ≡ listed_plan (policy_of n (take held.required.count held.required.sets) (take held.forbidden.count held.forbidden.sets))
-read_done {o} {held} n h e = done_by o held n h (sym (ap outcome e) ∙ h.says)
+pub read_to : (o : Outcome Policy) (t : PolicyText) → Holds o (Ok t)
+    → listed_policy o ≡ listed_plan (policy_of t.people t.required.items t.forbidden.items)
+read_to (done p) t h = sym (rw (h.people, h.required, h.forbidden) (first-sets p.people p.required p.forbidden))
+read_to (refused m a b) t h = absurd h
 
-refused_by : (o : Outcome Policy) (m a b : ℕ) → refused m a b ≡ people_of o → listed_policy o ≡ refused_line m a b
-refused_by (done p) m a b e = never_both (sym e)
-refused_by (refused n c d) m a b e =
-    let p : n ≡ m = cc in
-    let q : c ≡ a = cc in
-    let r : d ≡ b = cc in
-    rw (p, q, r)
+module _ (p : Policy) (x : Result Plan Refusal) (says : outcome_by (λ (plan : Plan). plan.pieces) x ≡ planned p) where
+  pub not_planned : {r : Refusal} → x ≡ Err r → listed_plan p ≡ refused_line (number r.kind) r.a r.b
+  not_planned {r} e = plan_refused p (number r.kind) r.a r.b (sym says ∙ ap (outcome_by (λ (plan : Plan). plan.pieces)) e)
 
-pub read_refused : {o : Outcome Policy} {held : PolicyText} (r : Refusal) → Holds o held → held.answer ≡ Refused r
-    → listed_policy o ≡ refused_line (number r.kind) r.a r.b
-read_refused {o} r h e = refused_by o (number r.kind) r.a r.b (sym (ap outcome e) ∙ h.says)
+  module _ {plan : Plan} (e : x ≡ Ok plan) (rows : plan.rows ≡ planned_rows p) where
+    is_planned : planned p ≡ done plan.pieces
+    is_planned = sym says ∙ ap (outcome_by (λ (plan : Plan). plan.pieces)) e
+
+    pub few_people : p.people ≤ 8
+    few_people = (accepted-listed p plan.pieces is_planned).few
+
+    pub few_pieces : plan.pieces ≤ 70
+    few_pieces = (some-piece p plan.pieces is_planned).2
+
+    pub listing-is : listing_by (marked plan.rows) (λ i j. not (marked plan.rows j i)) p.people plan.pieces ≡ listed_plan p
+    listing-is =
+        ap (λ (rows : List (List Bool)). listing_by (marked rows) (λ i j. not (marked rows j i)) p.people plan.pieces) rows
+        ∙ table-listing p plan.pieces is_planned ∙ sym (plan_done p plan.pieces is_planned)

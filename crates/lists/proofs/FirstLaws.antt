@@ -10,7 +10,9 @@ use native.Mathlib.Omega.{arith}
 use lib.Dec.{eqb}
 use lib.ListN.{length, get_or}
 use borrow.Author.Tests.{eq-eqb, ne_eqb, eqb-true, not-false}
-use Rattle.lists.specs.Places.{first_from, first_in, found, first_place, at}
+use Rattle.std.specs.Prelude.{Option, Some, None}
+use Rattle.std.proofs.lemmas.Option.{none-some, same_Some}
+use Rattle.lists.specs.Places.{first_from, first_in, found, first_place, placed, at}
 use Rattle.lists.specs.Laws.{IsFirst}
 
 -- ---- a search: the loop at place i, with the end e
@@ -272,3 +274,25 @@ same_from t u (suc n) i h =
 
 pub first-same : (t u : ℕ → Bool) (i e : ℕ) → ((k : ℕ) → i ≤ k → k < e → t k ≡ u k) → first_in t i e ≡ first_in u i e
 first-same t u i e h = same_from t u (e - i) i (λ k l m. h k l (omega arith))
+
+-- ---- a place as the code hands it on
+pub placed_some : (a : ℕ) {i : ℕ} {r : Option ℕ} → r ≡ placed a → r ≡ Some i → a ≡ i
+placed_some zero {i} e q = absurd (none-some i (sym e ∙ q))
+placed_some (suc a) {i} e q = same_Some (suc a) i (sym e ∙ q)
+
+pub placed_none : (a : ℕ) {r : Option ℕ} → r ≡ placed a → r ≡ None → a ≡ 0
+placed_none zero e q = refl
+placed_none (suc a) e q = absurd (none-some (suc a) (sym q ∙ e))
+
+-- so it was found
+pub placed_found : (a : ℕ) {i : ℕ} {r : Option ℕ} → r ≡ placed a → r ≡ Some i → found a ≡ true
+placed_found zero {i} e q = absurd (none-some i (sym e ∙ q))
+placed_found (suc a) e q = found_some (λ z. omega arith)
+
+-- a place is handed on, or none
+pub some_placed : {a i : ℕ} → a ≡ i → 1 ≤ i → Some i ≡ placed a
+some_placed {i = zero} e l = absurd (omega arith)
+some_placed {i = suc i} e l = ap placed (sym e)
+
+pub none_placed : {a : ℕ} → a ≡ 0 → None ≡ placed a
+none_placed e = ap placed (sym e)

@@ -1,6 +1,7 @@
 pub mod Truth
 pub mod RangeLaws
 pub mod FirstLaws
+pub mod FindLaws
 pub mod AheadLaws
 pub mod ThoseLaws
 pub mod RunLaws
@@ -9,3 +10,4 @@ pub mod EachLaws
 pub mod FlatLaws
 pub mod OverLaws
 pub mod Laws
+pub mod PositionLaws

@@ -76,3 +76,7 @@ same_read {u = u} {v = v} p q e = eq-eqb u v (sym p ∙ e ∙ q)
 
 pub other_read : {x y u v : ℕ} → x ≡ u → y ≡ v → x ≢ y → eqb u v ≡ false
 other_read {u = u} {v = v} p q f = ne_eqb u v (λ e. f (p ∙ e ∙ sym q))
+
+pub and_and : (a b c : Bool) → (a && (b && c)) ≡ (a && b && c)
+and_and true b c = refl
+and_and false b c = refl

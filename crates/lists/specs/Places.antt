@@ -1,6 +1,6 @@
 -- Places, which are counted from 1 (SCOPE 1); 0 says that there is none.
 -- Assumes nothing.
-use Rattle.std.specs.Prelude.{Bool, cond, not, ◌||◌, List, [], ◌∷◌, ◌++◌, ℕ, zero, suc, ◌+◌, ◌-◌, eqb, ltb, length, get_or}
+use Rattle.std.specs.Prelude.{Bool, Option, Some, None, cond, not, ◌||◌, List, [], ◌∷◌, ◌++◌, ℕ, zero, suc, ◌+◌, ◌-◌, eqb, ltb, length, get_or}
 
 -- the first of the n places from i on at which the test holds, or 0
 unfoldable pub first_from : (ℕ → Bool) → ℕ → ℕ → ℕ
@@ -14,6 +14,11 @@ first_in test i e = first_from test i (e - i)
 -- a place was found
 abbrev pub found : ℕ → Bool
 found a = not (eqb a 0)
+
+-- a place that was looked for, as the code hands it on
+abbrev pub placed : ℕ → Option ℕ
+placed zero = None
+placed (suc a) = Some (suc a)
 
 -- a number outside 1 to high
 abbrev pub outside : ℕ → ℕ → Bool

@@ -3,14 +3,16 @@
 use mathlib.Core.Path.{◌≡◌, refl, sym, ap, ◌∙◌}
 use mathlib.Core.List.{List, [], ◌∷◌, ◌++◌}
 use Prim.Native.Nat.{ℕ, zero, suc, ◌+◌, ◌*◌, ◌/◌, ◌%◌, ◌^◌, ◌≤◌, ◌<◌}
-use native.Mathlib.Nat.{add-zero, pow-zero, pow-suc, le_refl, mul-le-mul, mul-le-mul_right, mul-div-le, le_trans, not-le_of_lt, lt_of_not-le}
+use native.Mathlib.Nat.{add-zero, pow-zero, pow-suc, le_refl, mul-le-mul, mul-le-mul_right}
 use native.Mathlib.Omega.{arith}
-use native.Mathlib.Decide.{dec_le}
 use lib.ListN.{length, get_or, set, drop}
 use lib.Seq.{drop-cons, drop-set-add, append_snoc}
 use Rattle.packing.specs.Digits.{number_from, number_of, digits}
-use Rattle.packing.specs.Inner.{half}
 use Rattle.packing.proofs.DigitLaws.{Below, none, one}
+
+-- what a number of 128 bits is below
+abbrev pub top : ℕ
+top = 2 ^ 128
 
 -- what is used of a base
 pub record Base (base : ℕ) : Type 0 where
@@ -91,22 +93,3 @@ cut_on base x c made all h e =
 pub none_left : (base x c : ℕ) (made : List ℕ) → c ≡ 0 → made ≡ digits base c x ++ drop c made
 unfolding digits
 none_left base x c made e = rw e
-
--- ---- the halves of a number with one digit more: what goes up from the lower half fits in the upper one, where the whole fits in both
-turned : (q r b : ℕ) → q * (r * b) ≡ r * q * b
-turned q r b = omega arith
-
-at_most : (h b t q l d x : ℕ) → q * t ≡ x → x ≤ l * b → (h * b + q) * t ≤ (h * t + l) * b + d
-at_most h b t q l d x s m = omega (arith, s, m)
-
-pub goes_up : (base rest high low d : ℕ) → rest * base ≡ half → (high * half + low) * base + d < half * half → high * base + low / rest < half
-goes_up base rest high low d e h = go (dec_le half (high * base + low / rest))
-  where
-    enough : (high * base + low / rest) * half ≤ (high * half + low) * base + d
-    enough =
-        at_most high base half (low / rest) low d (rest * (low / rest) * base)
-        (ap (λ (x : ℕ). low / rest * x) (sym e) ∙ turned (low / rest) rest base) (mul-le-mul_right base (mul-div-le low rest))
-
-    go : Dec (half ≤ high * base + low / rest) → high * base + low / rest < half
-    go (no f) = lt_of_not-le f
-    go (yes l) = absurd (not-le_of_lt h (le_trans (mul-le-mul_right half l) enough))

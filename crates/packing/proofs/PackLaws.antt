@@ -12,9 +12,8 @@ use lib.Seq.{drop-cons}
 use Rattle.packing.specs.Digits.{number_from, number_of, digits}
 use Rattle.packing.specs.Key.{Key, KeyWords, packed, unpacked}
 use Rattle.packing.specs.Laws as law
-use Rattle.packing.specs.Inner.{half}
 use Rattle.packing.proofs.DigitLaws.{Below, below_rest, digits-back, below_list, below_at, digits-count, digits-below}
-use Rattle.packing.proofs.NumberLaws.{of_bytes, of_words, number-least, number-below, digits_number}
+use Rattle.packing.proofs.NumberLaws.{top, of_bytes, of_words, number-least, number-below, digits_number}
 
 key_below : (l : List ℕ) → Key l → Below 256 l
 key_below l key = below_list 256 16 l key.sixteen (λ k h. omega (arith, key.bytes k h))
@@ -38,7 +37,7 @@ unfolding packed
 packed-small key i = below_at 8192 (digits-below 8192 10 (number_of 256 key) of_words.below) (omega arith) i
 
 -- ---- how large their numbers are
-pub key_top : (l : List ℕ) → Key l → number_of 256 l < half * half
+pub key_top : (l : List ℕ) → Key l → number_of 256 l < top
 unfolding number_of
 key_top l key = rw key.sixteen at (number-below of_bytes 0 (key_below l key))
 
@@ -49,7 +48,7 @@ tens l n =
     let z : 0 * 8192 + get_or l 0 0 ≡ get_or l 0 0 = omega arith in
     (ap (number_from 8192 0) (drop-cons l 0 0 (omega (arith, n))) ∙ ap (λ (c : ℕ). number_from 8192 c (drop 1 l)) z, length-drop 1 l ∙ omega (arith, n))
 
-pub words_top : (l : List ℕ) → KeyWords l → number_of 8192 l < half * half
+pub words_top : (l : List ℕ) → KeyWords l → number_of 8192 l < top
 words_top l words =
     let t = tens l words.ten in
     let f : get_or l 0 0 + 1 ≤ 2048 = omega (arith, words.first) in
@@ -65,7 +64,7 @@ unfolding unpacked
 unpacked-number l words = digits_number of_bytes 16 (number_of 8192 l) (words_top l words)
 
 -- the first of ten words is what stands above the nine others
-first_small : (l : List ℕ) → length l ≡ 10 → number_of 8192 l < half * half → get_or l 0 0 ≤ 2047
+first_small : (l : List ℕ) → length l ≡ 10 → number_of 8192 l < top → get_or l 0 0 ≤ 2047
 first_small l n h = go (dec_le 2048 (get_or l 0 0))
   where
     go : Dec (2048 ≤ get_or l 0 0) → get_or l 0 0 ≤ 2047

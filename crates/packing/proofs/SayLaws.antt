@@ -1,26 +1,26 @@
--- What packing and unpacking say at each of their tests, and how the bytes are written.
+-- What packing and unpacking say at each of their tests, and what they leave of what was lent.
 -- Assumes nothing.
 use mathlib.Core.Path.{◌≡◌, refl, sym, ap, ◌∙◌}
 use mathlib.Core.Logic.{◌≢◌}
 use mathlib.Core.Bool.{Bool, true, false, not, cond}
-use mathlib.Core.List.{List, [], ◌∷◌}
-use Prim.Native.Nat.{ℕ, zero, suc, ◌+◌, ◌≤◌, ◌<◌}
+use mathlib.Core.List.{List, [], ◌∷◌, ◌++◌}
+use Prim.Native.Nat.{ℕ, zero, suc, ◌≤◌, ◌<◌}
 use native.Mathlib.Omega.{arith}
 use borrow.Author.Tests.{eqb-true, eq-eqb, ne_eqb, lt-ltb, le-ltb, not-false}
 use lib.Dec.{ltb, eqb}
-use lib.ListN.{length, get_or, set, take}
-use lib.Seq.{take-suc, take_all, length-take-le}
-use Rattle.answer.specs.Outcome.{Outcome, done, refused}
+use lib.ListN.{length, drop}
+use Rattle.std.specs.Prelude.{⊤, Option, Some, None, Result, Ok, Err}
+use Rattle.answer.specs.declared.Refusal.{Refusal}
+use Rattle.answer.specs.Outcome.{Outcome, done, refused, number, checked}
 use Rattle.answer.specs.Checks.{first_fail}
-use Rattle.lists.specs.Places.{at}
+use Rattle.lists.specs.Places.{at, placed}
 use Rattle.lists.specs.Over.{over}
 use Rattle.answer.specs.Lent.{no_room, left}
 use Rattle.answer.proofs.LentLaws.{room-refused, room-given}
 use Rattle.lists.proofs.Truth.{never}
-use Rattle.answer.proofs.CheckLaws.{given, not_given, passed_one, passed_none, passed, done-passed}
-use Rattle.lists.proofs.FirstLaws.{none_in, first-all, found_some, found_none, none_found}
-use Rattle.lists.proofs.OverLaws.{over_more}
-use Rattle.packing.specs.Key.{KeyWords, packed, unpacked, most, wrong_at, first_wrong, pack_lines, packing, packed_words, unpacking, unpacked_into, not_sixteen}
+use Rattle.answer.proofs.CheckLaws.{given, not_given, passed_one, passed_none, passed, passed-done, done-passed, stops, goes_on}
+use Rattle.lists.proofs.FirstLaws.{none_in, first-all, found_none, none_found, placed_some, placed_found, placed_none}
+use Rattle.packing.specs.Key.{KeyWords, packed, unpacked, most, wrong_at, first_wrong, pack_lines, packing, packed_words, unpacking, unpacked_into, not_sixteen, not_key}
 use Rattle.packing.specs.Laws as law
 use Rattle.packing.proofs.PackLaws.{packed-words, unpacked_key, key_back, words_back}
 
@@ -82,51 +82,23 @@ right-most words w (suc (suc k)) p q = rw (ne_eqb (suc (suc k)) 1 (λ e. omega a
 right-word : (words : List ℕ) → KeyWords words → (k : ℕ) → 1 ≤ k → k < 11 → wrong_at words k ≡ false
 right-word words w k p q = le-ltb (most k) (at words k) (right-most words w k p q)
 
--- ---- unpacking
-module _ (words : List ℕ) (room : ℕ) where
-  pub says-few : length words ≢ 10 → unpacking words room ≡ refused 23 0 0
-  unfolding unpacking
-  says-few h = given _ _ (done 16) (ap not (ne_eqb _ 10 h))
+-- ---- what the check of the words says
+right-lines : (words : List ℕ) → length words ≡ 10 → first_wrong words ≡ 0 → first_fail {A = ℕ} (not_key words) (done 0) ≡ done 0
+right-lines words n z = passed-done (not_key words) (done 0) (passed_one (ap not (eq-eqb _ 10 n)) (passed_one (found_none z) passed_none))
 
-  module _ (n : length words ≡ 10) where
-    pub says_wrong : first_wrong words ≢ 0 → unpacking words room ≡ refused 23 (first_wrong words) 0
-    unfolding unpacking
-    says_wrong h = not_given _ _ (done 16) (ap not (eq-eqb _ 10 n)) ∙ given _ _ (done 16) (found_some h)
+module _ (words : List ℕ) where
+  pub says-few : length words ≢ 10 → first_fail {A = ℕ} (not_key words) (done 0) ≡ refused 23 0 0
+  says-few h = given _ _ (done 0) (ap not (ne_eqb _ 10 h))
 
-    module _ (z : first_wrong words ≡ 0) where
-      past : unpacking words room ≡ first_fail (no_room 16 16 room ∷ []) (done 16)
-      unfolding unpacking
-      past = not_given _ _ (done 16) (ap not (eq-eqb _ 10 n)) ∙ not_given _ _ (done 16) (found_none z)
+  module _ (n : length words ≡ 10) {r : Option ℕ} (e : r ≡ placed (first_wrong words)) where
+    pub says_wrong : {i : ℕ} → r ≡ Some i → first_fail {A = ℕ} (not_key words) (done 0) ≡ refused 23 i 0
+    says_wrong q =
+        not_given _ _ (done 0) (ap not (eq-eqb _ 10 n))
+        ∙ given _ _ (done 0) (placed_found (first_wrong words) e q)
+        ∙ ap (λ (a : ℕ). refused 23 a 0) (placed_some (first_wrong words) e q)
 
-      pub says-room : room < 16 → unpacking words room ≡ refused 12 16 0
-      says-room h = past ∙ room-refused 16 16 room (done 16) h
-
-      pub says-done : 16 ≤ room → unpacking words room ≡ done 16
-      says-done h = past ∙ room-given 16 16 room (done 16) h
-
--- what is lent stays, or the bytes stand over its front
-pub lent_as : (words old : List ℕ) (p : Outcome ℕ) → unpacking words (length old) ≡ p → unpacked_into words old ≡ left p (unpacked words) old
-unfolding unpacked_into
-lent_as words old p e = ap (λ (x : Outcome ℕ). left x (unpacked words) old) e
-
--- ---- one byte more
-pub put_more : (bytes old out : List ℕ) (i : ℕ) → length bytes ≡ 16 → 16 ≤ length old → i < 16 → out ≡ over (take i bytes) old
-    → set out i (get_or bytes i 0) ≡ over (take (i + 1) bytes) old
-put_more bytes old out i n m h e =
-    let v = get_or bytes i 0 in
-    let k : length (take i bytes) ≡ i = length-take-le i bytes (omega arith) in
-    let j : suc i ≡ i + 1 = omega arith in
-    ap (λ (x : List ℕ). set x i v) e
-    ∙ ap (λ (x : ℕ). set (over (take i bytes) old) x v) (sym k)
-    ∙ over_more (take i bytes) old v (omega arith)
-    ∙ ap (λ (x : List ℕ). over x old) (sym (take-suc bytes i 0 (omega arith)) ∙ ap (λ (x : ℕ). take x bytes) j)
-
-pub put_end : (bytes old out : List ℕ) (i : ℕ) → length bytes ≡ 16 → 16 ≤ i → out ≡ over (take i bytes) old → out ≡ over bytes old
-put_end bytes old out i n h e = e ∙ ap (λ (x : List ℕ). over x old) (take_all i bytes (omega arith))
-
-pub put-start : (bytes old : List ℕ) → old ≡ over (take 0 bytes) old
-unfolding over
-put-start bytes old = refl
+    pub says-right : r ≡ None → first_fail {A = ℕ} (not_key words) (done 0) ≡ done 0
+    says-right q = right-lines words n (placed_none (first_wrong words) e q)
 
 none_is_wrong : (words : List ℕ) → KeyWords words → first_wrong words ≡ 0
 unfolding first_wrong
@@ -138,9 +110,45 @@ not_key_means words = (
   λ w. passed_one (ap not (eq-eqb _ 10 w.ten)) (passed_one (found_none (none_is_wrong words w)) passed_none),
 )
 
+-- ---- unpacking: what the check of the words says, and then ROOM
+module _ (words : List ℕ) (room : ℕ) {x : Result ⊤ Refusal} (says : checked x ≡ first_fail (not_key words) (done 0)) where
+  pub says-refused : {r : Refusal} → x ≡ Err r → unpacking words room ≡ refused (number r.kind) r.a r.b
+  unfolding unpacking
+  says-refused q = sym (stops (not_key words) says (no_room 16 16 room ∷ []) (done 16) q)
+
+  module _ {u : ⊤} (q : x ≡ Ok u) where
+    pub right-words : KeyWords words
+    right-words = (not_key_means words).0 (done-passed (not_key words) (done 0) 0 (sym says ∙ ap checked q)).0
+
+    past : unpacking words room ≡ first_fail (no_room 16 16 room ∷ []) (done 16)
+    unfolding unpacking
+    past = goes_on (not_key words) says (no_room 16 16 room ∷ []) (done 16) q
+
+    pub says-room : room < 16 → unpacking words room ≡ refused 12 16 0
+    says-room h = past ∙ room-refused 16 16 room (done 16) h
+
+    pub says-done : 16 ≤ room → unpacking words room ≡ done 16
+    says-done h = past ∙ room-given 16 16 room (done 16) h
+
+-- what is lent stays, or the bytes stand over its front
+pub lent_as : (words old : List ℕ) (p : Outcome ℕ) → unpacking words (length old) ≡ p → unpacked_into words old ≡ left p (unpacked words) old
+unfolding unpacked_into
+lent_as words old p e = ap (λ (x : Outcome ℕ). left x (unpacked words) old) e
+
+pub lent-refused : (words old : List ℕ) (m a b : ℕ) → unpacking words (length old) ≡ refused m a b → old ≡ unpacked_into words old
+lent-refused words old m a b e = sym (lent_as words old (refused m a b) e)
+
+pub lent-written : (words old bytes : List ℕ) → bytes ≡ unpacked words → length bytes ≡ 16 → unpacking words (length old) ≡ done 16
+    → bytes ++ drop 16 old ≡ unpacked_into words old
+unfolding over
+lent-written words old bytes e n d =
+    ap (λ (k : ℕ). bytes ++ drop k old) (sym n) ∙ ap (λ (l : List ℕ). over l old) e ∙ sym (lent_as words old (done 16) d)
+
 -- ---- one call after the other
 pub unpacks : (words : List ℕ) (room : ℕ) → KeyWords words → 16 ≤ room → unpacking words room ≡ done 16
-unpacks words room w h = says-done words room w.ten (none_is_wrong words w) h
+unpacks words room w h =
+    let says = right-lines words w.ten (none_is_wrong words w) in
+    says-done words room {x = Ok tt} (sym says) refl h
 
 pub pack_unpack : law.PackUnpack
 pack_unpack key out k h =

@@ -5,6 +5,9 @@ use Prim.Native.Nat.{ℕ, ◌+◌, ◌-◌, ◌*◌, ◌≤◌}
 use native.Mathlib.Omega.{arith}
 use lib.ListN.{length, drop, take, length-drop}
 use lib.Seq.{drop-drop, take_all}
+use Rattle.std.specs.Prelude.{Option, Some}
+use Rattle.lists.specs.Places.{placed}
+use Rattle.lists.proofs.FirstLaws.{placed_some, placed_found, some-found}
 use Rattle.pile.specs.Blocks.{blocks, rest_from, word, TrueBlocks}
 
 -- past block a
@@ -26,3 +29,7 @@ part_rest l at = take_all (length l - at) (drop at l) (omega (arith, length-drop
 -- no word of a true block is above 32748
 pub word_small : (pile : List ℕ) → TrueBlocks pile → (a i : ℕ) → 1 ≤ a → a ≤ blocks pile → 1 ≤ i → i ≤ 256 → word pile a i ≤ 32748
 word_small pile t a i l h m n = (t.block a l h).clean.small i m n
+
+-- a place that is handed on is what was looked for, and counts from 1
+pub placed_is : (a : ℕ) {i : ℕ} {r : Option ℕ} → r ≡ placed a → r ≡ Some i → (a ≡ i) × (1 ≤ i)
+placed_is a e q = let is = placed_some a e q in (is, rw (← is) (some-found a (placed_found a e q)))

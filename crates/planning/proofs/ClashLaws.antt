@@ -2,16 +2,19 @@
 -- Assumes nothing.
 use mathlib.Core.Path.{◌≡◌, refl, sym, ◌∙◌}
 use mathlib.Core.Bool.{Bool, true}
-use mathlib.Core.List.{[], ◌∷◌}
-use Prim.Native.Nat.{ℕ}
+use mathlib.Core.List.{List, [], ◌∷◌}
+use Prim.Native.Nat.{ℕ, ◌+◌, ◌-◌, ◌<◌}
+use lib.ListN.{length, get_or}
+use native.Mathlib.Omega.{arith}
+use Rattle.std.specs.Prelude.{Option, Some, position}
 use Rattle.answer.specs.declared.Kind.TheVariants.{Clash}
-use Rattle.answer.specs.Outcome.{refused, number}
+use Rattle.answer.specs.Outcome.{done, refused, number}
 use Rattle.answer.specs.Checks.{first_fail}
-use Rattle.lists.specs.Places.{found, at}
+use Rattle.lists.specs.Places.{first_place, found, at}
 use Rattle.answer.specs.Laws.{Passed}
 use Rattle.lists.specs.Laws.{IsFirst}
 use Rattle.lists.specs.Some.{some}
-use Rattle.answer.proofs.CheckLaws.{given, append-lines, passed-done}
+use Rattle.answer.proofs.CheckLaws.{given, append-lines, passed_none, passed_one, passed-done}
 use Rattle.answer.proofs.WhichLaws.{Gives, only_one, place_is}
 use Rattle.planning.specs.Sets.{inside}
 use Rattle.planning.specs.Groups.{authorised, piece_count}
@@ -22,11 +25,18 @@ use Rattle.lists.proofs.Truth.{isn't, surely}
 use Rattle.lists.proofs.SomeLaws.{some-place}
 use Rattle.planning.proofs.FamilyLaws.{clash-none, authorised-suits}
 use Rattle.planning.proofs.ListedLaws.{listed}
+use Rattle.lists.proofs.FirstLaws.{found_some}
+use Rattle.lists.proofs.AheadLaws.{PlaceAhead, here}
+use Rattle.lists.proofs.PositionLaws.{position_found, position_is}
 use Rattle.planning.proofs.PlannedLaws.{end}
 
 -- ---- tests that agree have the same first place
 first_as : {t u : ℕ → Bool} {i e f : ℕ} → ((k : ℕ) → t k ≡ u k) → IsFirst t i e f → IsFirst u i e f
 first_as {f = f} same h = record { from = h.from; to = h.to; has = sym (same f) ∙ h.has; least = λ k l m. sym (same k) ∙ h.least k l m }
+
+-- the sets that lie inside some forbidden set
+abbrev pub clashing : List ℕ → ℕ → Bool
+clashing forbidden r = found (around_place forbidden r)
 
 module _ (p : Policy) where
   -- ---- CLASH
@@ -72,3 +82,23 @@ clash_families p h = (never_suits, suits, ((λ c F. never_suits c (λ g. F g ≡
     given_so : ((F : ℕ → Bool) → Suits p (λ g. F g ≡ true) → ⊥) → Clashes p
     given_so un =
         clash-given p h (surely (λ f. un (authorised p.required) (authorised-suits p l f)))
+
+-- ---- CLASH as the code looks for it, required set by required set
+module _ (required forbidden : List ℕ) where
+  -- at index i one lies inside the forbidden set at index j
+  pub clash_at : {i j : ℕ} {r : Option ℕ} → PlaceAhead (clashing forbidden) required i → i < length required
+      → r ≡ position (inside (get_or required i 0)) forbidden → r ≡ Some j
+      → refused (number Clash) (i + 1) (j + 1) ≡ first_fail {A = ℕ} (clash required forbidden ∷ []) (done 0)
+  unfolding clash clash_place
+  clash_at {i} {j} h l e q =
+      let t = inside (get_or required i 0) in
+      let a : i + 1 ≡ first_place (clashing forbidden) required = here h l (position_is t forbidden e q) in
+      let s : i + 1 - 1 ≡ i = omega arith in
+      let b : around_place forbidden (at required (i + 1)) ≡ j + 1 = rw s (position_found t forbidden e q) in
+      let g : found (i + 1) ≡ true = found_some (λ z. omega arith) in
+      sym (given {A = ℕ} (clash required forbidden) [] (done 0) (rw (← a) g) ∙ rw (← a, b))
+
+  -- none does
+  pub no_clash : 0 ≡ first_place (clashing forbidden) required → done 0 ≡ first_fail {A = ℕ} (clash required forbidden ∷ []) (done 0)
+  unfolding clash clash_place
+  no_clash e = sym (passed-done {A = ℕ} (clash required forbidden ∷ []) (done 0) (passed_one (rw (← e)) passed_none))

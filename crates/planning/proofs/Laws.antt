@@ -1,10 +1,15 @@
 -- This room's laws, proved: each by its name in specs/Laws.antt. Assumes nothing.
-use mathlib.Core.Path.{◌≡◌, sym, ◌∙◌}
+use mathlib.Core.Path.{◌≡◌, sym, ap, ◌∙◌}
 use mathlib.Core.Bool.{Bool}
 use mathlib.Core.List.{List}
-use Rattle.answer.specs.declared.Answer.{Answer}
-use Rattle.answer.proofs.OneLaws.{outcome_one}
+use Prim.Native.Nat.{ℕ}
+use Rattle.std.specs.Prelude.{Result, Ok, Err, IfOk}
+use Rattle.answer.specs.declared.Refusal.{Refusal}
+use Rattle.answer.specs.Outcome.{number, outcome_by}
+use Rattle.answer.proofs.OneLaws.{refusal_one}
 use Rattle.planning.specs.declared.table.Plan.{Plan}
+use Rattle.planning.specs.Policy.{Policy}
+use Rattle.planning.specs.Planned.{planned_rows}
 use Rattle.planning.specs.Laws as law
 use Rattle.planning.proofs.SetLaws as set
 use Rattle.planning.proofs.CountLaws as count
@@ -89,12 +94,23 @@ pub refused-rows : law.RefusedRows
 refused-rows = accepted.refused-rows
 
 -- antt compares two records by their fields: what is shown of `made` at a plan's fields is shown of the plan
-abbrev made : Answer → List (List Bool) → Plan
-made x t = record { answer = x; rows = t }
+abbrev made : ℕ → List (List Bool) → Plan
+made k t = record { pieces = k; rows = t }
+
+same_plan : (x y : Plan) → x.pieces ≡ y.pieces → x.rows ≡ y.rows → x ≡ y
+same_plan x y e f = let g : made x.pieces x.rows ≡ made y.pieces y.rows = cc in g
+
+-- with the tables equal too, plans are told apart by their number of pieces
+both_plans : (p : Policy) (x y : Result Plan Refusal) → outcome_by (λ (v : Plan). v.pieces) x ≡ outcome_by (λ (v : Plan). v.pieces) y
+    → IfOk x (λ (v : Plan). v.rows ≡ planned_rows p) → IfOk y (λ (v : Plan). v.rows ≡ planned_rows p) → x ≡ y
+both_plans p (Ok v) (Ok w) e h k = let n : v.pieces ≡ w.pieces = cc in ap Ok (same_plan v w n (h ∙ sym k))
+both_plans p (Ok v) (Err s) e h k = cc
+both_plans p (Err r) (Ok w) e h k = cc
+both_plans p (Err r) (Err s) e h k =
+    let n : number r.kind ≡ number s.kind = cc in
+    let a : r.a ≡ s.a = cc in
+    let b : r.b ≡ s.b = cc in
+    ap Err (refusal_one r s n a b)
 
 pub plan_one : law.PlanOne
-plan_one p x y h k =
-    let e : x.answer ≡ y.answer = outcome_one x.answer y.answer (h.says ∙ sym k.says) in
-    let f : x.rows ≡ y.rows = h.table ∙ sym k.table in
-    let g : made x.answer x.rows ≡ made y.answer y.rows = cc in
-    g
+plan_one p x y h k = both_plans p x y (h.says ∙ sym k.says) h.table k.table

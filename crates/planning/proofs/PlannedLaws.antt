@@ -5,9 +5,8 @@ use mathlib.Core.Bool.{Bool}
 use mathlib.Core.List.{List, [], ◌∷◌}
 use Prim.Native.Nat.{ℕ}
 use Rattle.answer.specs.declared.Refusal.{Refusal}
-use Rattle.answer.specs.declared.Answer.{Answer}
-use Rattle.answer.specs.declared.Answer.TheVariants.{Done, Refused}
-use Rattle.answer.specs.Outcome.{Outcome, done, refused, number, outcome}
+use Rattle.std.specs.Prelude.{⊤, Result, Ok, Err}
+use Rattle.answer.specs.Outcome.{Outcome, done, refused, number, checked}
 use Rattle.answer.specs.Checks.{first_fail}
 use Rattle.answer.proofs.CheckLaws.{same_refusal, stops, goes_on, passed-append, done-passed, passed-done}
 use Rattle.planning.specs.Groups.{groups, piece_count, rows_of}
@@ -28,25 +27,25 @@ module _ (p : Policy) where
 
   -- ---- the checks
   -- the lists are refused; or they are not, and CLASH speaks
-  pub lists_refuse : {x : Answer} {r : Refusal} → outcome x ≡ first_fail (list_lines p) (done 0) → x ≡ Refused r
-      → outcome (Refused r) ≡ first_fail (plan_lines p) (done 0)
+  pub lists_refuse : {x : Result ⊤ Refusal} {r : Refusal} → checked x ≡ first_fail (list_lines p) (done 0) → x ≡ Err r
+      → refused (number r.kind) r.a r.b ≡ first_fail {A = ℕ} (plan_lines p) (done 0)
   unfolding plan_lines
   lists_refuse says q = stops (list_lines p) says (clash p.required p.forbidden ∷ []) (done 0) q
 
-  pub clash_speaks : {x : Answer} {u : ℕ} {o : Outcome ℕ} → outcome x ≡ first_fail (list_lines p) (done 0) → x ≡ Done u
+  pub clash_speaks : {x : Result ⊤ Refusal} {u : ⊤} {o : Outcome ℕ} → checked x ≡ first_fail (list_lines p) (done 0) → x ≡ Ok u
       → o ≡ first_fail (clash p.required p.forbidden ∷ []) (done 0) → o ≡ first_fail (plan_lines p) (done 0)
   unfolding plan_lines
   clash_speaks says q says' = says' ∙ sym (goes_on (list_lines p) says (clash p.required p.forbidden ∷ []) (done 0) q)
 
   -- a refusal of the checks is planning's; else every line has passed
-  pub check_refuses : {x : Answer} {r : Refusal} → outcome x ≡ first_fail (plan_lines p) (done 0) → x ≡ Refused r → outcome (Refused r) ≡ planned p
+  pub check_refuses : {x : Result ⊤ Refusal} {r : Refusal} → checked x ≡ first_fail (plan_lines p) (done 0) → x ≡ Err r → refused (number r.kind) r.a r.b ≡ planned p
   unfolding planned
-  check_refuses {r = r} says q = sym (same_refusal (plan_lines p) 0 (end p) (number r.kind) r.a r.b (sym says ∙ ap outcome q))
+  check_refuses {r = r} says q = sym (same_refusal (plan_lines p) 0 (end p) (number r.kind) r.a r.b (sym says ∙ ap checked q))
 
-  pub clear : {x : Answer} {u : ℕ} → outcome x ≡ first_fail (plan_lines p) (done 0) → x ≡ Done u → Clear
+  pub clear : {x : Result ⊤ Refusal} {u : ⊤} → checked x ≡ first_fail (plan_lines p) (done 0) → x ≡ Ok u → Clear
   unfolding planned plan_lines
   clear {u = u} says q =
-      let h = (done-passed (plan_lines p) (done 0) u (sym says ∙ ap outcome q)).0 in
+      let h = (done-passed (plan_lines p) (done 0) 0 (sym says ∙ ap checked q)).0 in
       record { listed_so = listed p (passed-append (list_lines p) h).0; then = passed-done (plan_lines p) (end p) h }
 
   -- ---- the plan

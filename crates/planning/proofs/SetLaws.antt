@@ -2,6 +2,7 @@
 -- Assumes nothing.
 use mathlib.Core.Path.{◌≡◌, sym, ap, ◌∙◌}
 use mathlib.Core.Bool.{true, false, not, ◌||◌}
+use mathlib.Core.List.{List}
 use mathlib.Core.Logic.{◌↔◌, ⊎_elim}
 use Prim.Native.Nat.{ℕ, zero, suc, ◌+◌, ◌-◌, ◌/◌, ◌%◌, ◌^◌, ◌≤◌, ◌<◌, min, zero-le}
 use native.Mathlib.Nat.{le_refl, le-div_iff_mul-le, lt_of_not-le, not-suc-le-zero, le_of_suc-le-suc, mod-lt, div-one, div-eq_of_lt}
@@ -11,6 +12,7 @@ use lib.Dec.{eqb, lit<}
 use lib.Pow.{pow_pos, pow_mono, shr-shr}
 use lib.Bits.{bit_and, and_comm, and_step, and_shr, and_zero_r}
 use borrow.Author.Tests.{eq-eqb, eqb-true, eqb-false, ne_eqb, le-leb, leb-true}
+use Rattle.std.specs.Prelude.{Option, nat_le, position}
 use Rattle.chains.specs.Apart.{digit}
 use Rattle.chains.proofs.TestLaws.{digit-suc}
 use Rattle.planning.specs.Sets.{worth, member, inside, stranger}
@@ -205,3 +207,8 @@ inside_empty s h l t = let e : bit_and s 0 ≡ s = eqb-true _ _ (inside_test s 0
 -- a group of at most eight people is a set of 16 bits
 pub group-small : (n s : ℕ) → n ≤ 8 → s < 2 ^ n → s < 2 ^ 16
 group-small n s few h = let p : 2 ^ n ≤ 2 ^ 8 = pow_mono few in omega arith
+
+-- the sets with a stranger are those from the number of groups on
+pub strangers_from : (n : ℕ) (l : List ℕ) {size : ℕ} {r : Option ℕ} → size ≡ 2 ^ n → r ≡ position (nat_le size) l → r ≡ position (stranger n) l
+unfolding stranger
+strangers_from n l e h = rw (← e) h

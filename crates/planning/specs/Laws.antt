@@ -1,8 +1,9 @@
 -- The laws that this room owes; their proofs are in proofs/Laws.antt.
 -- Assumes nothing.
-use Rattle.std.specs.Prelude.{◌≡◌, Bool, true, false, List, ◌↔◌, ◌⊎◌, ◌≢◌, ℕ, ◌+◌, ◌^◌, ◌≤◌, ◌<◌, eqb, length}
+use Rattle.std.specs.Prelude.{◌≡◌, Result, IfOk, Bool, true, false, List, ◌↔◌, ◌⊎◌, ◌≢◌, ℕ, ◌+◌, ◌^◌, ◌≤◌, ◌<◌, eqb, length}
+use Rattle.answer.specs.declared.Refusal.{Refusal}
 use Rattle.answer.specs.declared.Kind.TheVariants.{LongList, Stranger, Open, Lone, Clash}
-use Rattle.answer.specs.Outcome.{done, refused, number, outcome}
+use Rattle.answer.specs.Outcome.{done, refused, number, outcome_by}
 use Rattle.lists.specs.Places.{at}
 use Rattle.answer.specs.Laws.{Passed}
 use Rattle.lists.specs.Laws.{IsFirst}
@@ -179,11 +180,11 @@ RefusedRows = (p : Policy) (m a b : ℕ) → planned p ≡ refused m a b
     → (i j : ℕ) → marked (planned_rows p) j i ≡ false
 
 -- ---- one plan
--- what planning promises of a plan
-pub record Promised (p : Policy) (x : Plan) : Type 0 where
-  pub says : outcome x.answer ≡ planned p
-  pub table : x.rows ≡ planned_rows p
+-- what planning promises of a plan or a refusal
+pub record Promised (p : Policy) (x : Result Plan Refusal) : Type 0 where
+  pub says : outcome_by (λ (plan : Plan). plan.pieces) x ≡ planned p
+  pub table : IfOk x (λ (plan : Plan). plan.rows ≡ planned_rows p)
 
 -- Two plans that the promise allows are equal.
 abbrev pub PlanOne : Type 0
-PlanOne = (p : Policy) (x y : Plan) → Promised p x → Promised p y → x ≡ y
+PlanOne = (p : Policy) (x y : Result Plan Refusal) → Promised p x → Promised p y → x ≡ y

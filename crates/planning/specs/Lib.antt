@@ -4,3 +4,4 @@ pub mod Policy
 pub mod Planned
 pub mod Inner
 pub mod Laws
+pub mod Given

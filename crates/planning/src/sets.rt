@@ -59,14 +59,7 @@ pub fn marks(g: u16) -> [bool; 8]
 pub fn authorised(required: &[u16], g: u16) -> bool
     ensures { result ≡ authorised required.now g }
 {
-    let mut i = 0;
-    while i < required.len() {
-        if inside(required[i], g) {
-            return true;
-        }
-        i += 1;
-    }
-    false
+    required.iter().any(|&r| inside(r, g))
 }
 
 // How many groups so many people have.

@@ -13,7 +13,7 @@ use Rattle.answer.specs.declared.Kind.TheVariants.{Text}
 use Rattle.answer.specs.Outcome.{done, refused, number}
 use Rattle.answer.specs.Checks.{first_fail}
 use Rattle.lists.proofs.FirstLaws.{first_hit, none_in, first-all}
-use Rattle.policy.specs.declared.Found.TheVariants.{Nothing}
+use Rattle.std.specs.Prelude.{None}
 use Rattle.policy.specs.Policy.{lines, line_of, people_in, line_says, is_nothing, is_bad, bad_at, bad_line, policy_in, read_policy}
 use Rattle.policy.specs.Inner.{line_length}
 use Rattle.policy.proofs.LinesLaws.{line_split}
@@ -43,7 +43,7 @@ unfolding lines line_length
 first-line [] = (refl, refl)
 first-line (b ∷ text) = let e = line_split b text in (ap (λ (ls : List (List ℕ)). line_of ls 1) e, ap (drop 1) e)
 
-pub first-bad : (text : List ℕ) → length text ≤ 16384 → people_in (line_of (lines text) 1) ≡ Nothing → read_policy text ≡ refused (number Text) 1 0
+pub first-bad : (text : List ℕ) → length text ≤ 16384 → people_in (line_of (lines text) 1) ≡ None → read_policy text ≡ refused (number Text) 1 0
 unfolding bad_line bad_at
 first-bad text h e = text_bad text h 1 (first_hit (bad_at (lines text)) 1 (end (lines text)) (omega arith) (ap is_nothing e)) (omega arith)
 

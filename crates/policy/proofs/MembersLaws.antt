@@ -15,7 +15,7 @@ use Rattle.lists.specs.Some.{each}
 use Rattle.lists.proofs.EachLaws.{each_at}
 use Rattle.print.specs.Decimal.{digit, digits}
 use Rattle.print.specs.Lines.{spaced, spaced_all, feed}
-use Rattle.policy.specs.declared.Found.TheVariants.{Number, Nothing}
+use Rattle.std.specs.Prelude.{Some, None}
 use Rattle.policy.specs.Policy.{pick_found, members}
 use Rattle.policy.specs.Laws.{members_of}
 use Rattle.policy.proofs.WritingLaws.{below_each}
@@ -81,14 +81,14 @@ tail_more c e m s h k l q r =
     (same_list (32 ∷ (digit e ∷ tail e m)) (tail c m) u.0, eqb-true (m % 2 ^ c) (m % 2 ^ e - 2 ^ (e - 1)) u.1 ∙ b)
 
 -- what was found is a number
-pub no_number : {m : ℕ} {A : Type 0} → Nothing ≡ Number m → A
+pub no_number : {m : ℕ} {A : Type 0} → None ≡ Some m → A
 no_number e = let z : ◌≡◌ {A = ℕ} 0 1 = cc in let w : ⊥ = omega arith in absurd w
 
 -- the line goes on with those of the set above c
 abbrev Shaped : ℕ → ℕ → ℕ → List ℕ → Type 0
 Shaped c s m l = (m < 512) × (m % 2 ^ c ≡ s) × (l ≡ tail c m)
 
-shaped_end : (t : Bool) (c s m b : ℕ) → eqb b 10 ≡ t → c ≤ 9 → s < 2 ^ c → pick_found t (Number s) Nothing ≡ Number m → Shaped c s m (b ∷ [])
+shaped_end : (t : Bool) (c s m b : ℕ) → eqb b 10 ≡ t → c ≤ 9 → s < 2 ^ c → pick_found t (Some s) None ≡ Some m → Shaped c s m (b ∷ [])
 shaped_end true c s m b e h k q =
     let z : s ≡ m = cc in
     let l : 2 ^ c ≤ 512 = pow-le-pow_right {n = 2} (omega arith) {i = c} {j = 9} h in
@@ -97,8 +97,8 @@ shaped_end true c s m b e h k q =
 shaped_end false c s m b e h k q = no_number q
 
 shaped_more : (t : Bool) (c s m b d : ℕ) (rest : List ℕ) → (eqb b 32 && ltb (48 + c) d && leb d 57) ≡ t → s < 2 ^ c
-    → ((e : ℕ) → d ≡ 48 + e → e ≤ 9 → c < e → s + 2 ^ (e - 1) < 2 ^ e → members (48 + e) (s + 2 ^ (e - 1)) rest ≡ Number m → Shaped e (s + 2 ^ (e - 1)) m rest)
-    → pick_found t (members d (s + 2 ^ (d - 48 - 1)) rest) Nothing ≡ Number m → Shaped c s m (b ∷ (d ∷ rest))
+    → ((e : ℕ) → d ≡ 48 + e → e ≤ 9 → c < e → s + 2 ^ (e - 1) < 2 ^ e → members (48 + e) (s + 2 ^ (e - 1)) rest ≡ Some m → Shaped e (s + 2 ^ (e - 1)) m rest)
+    → pick_found t (members d (s + 2 ^ (d - 48 - 1)) rest) None ≡ Some m → Shaped c s m (b ∷ (d ∷ rest))
 shaped_more true c s m b d rest q k f g =
     let x = both (eqb b 32 && ltb (48 + c) d) (leb d 57) q in
     let y = both (eqb b 32) (ltb (48 + c) d) x.0 in
@@ -114,13 +114,13 @@ shaped_more true c s m b d rest q k f g =
     (r.0, z.1, ap₂ (λ (u : ℕ) (v : List ℕ). u ∷ (d ∷ v)) (eqb-true b 32 y.0) r.2 ∙ ap (λ (v : ℕ). 32 ∷ (v ∷ tail e m)) is ∙ z.0)
 shaped_more false c s m b d rest q k f g = no_number g
 
-shaped : (l : List ℕ) (c s m : ℕ) → c ≤ 9 → s < 2 ^ c → members (48 + c) s l ≡ Number m → Shaped c s m l
+shaped : (l : List ℕ) (c s m : ℕ) → c ≤ 9 → s < 2 ^ c → members (48 + c) s l ≡ Some m → Shaped c s m l
 unfolding members
 shaped [] c s m h k q = no_number q
 shaped (b ∷ []) c s m h k q = shaped_end (eqb b 10) c s m b refl h k q
 shaped (b ∷ (d ∷ rest)) c s m h k q =
     shaped_more (eqb b 32 && ltb (48 + c) d && leb d 57) c s m b d rest refl k (λ e i l n p g. shaped rest e (s + 2 ^ (e - 1)) m l p g) q
 
-pub members_shape : (l : List ℕ) (m : ℕ) → members 48 0 l ≡ Number m → (m < 512) × (l ≡ spaced_all (members_of m) ++ feed)
+pub members_shape : (l : List ℕ) (m : ℕ) → members 48 0 l ≡ Some m → (m < 512) × (l ≡ spaced_all (members_of m) ++ feed)
 unfolding members_of tail
 members_shape l m h = let r = shaped l 0 0 m (omega arith) (omega arith) h in (r.0, r.2)

@@ -16,13 +16,13 @@ use Rattle.answer.proofs.CheckLaws.{done-passed, passed}
 use Rattle.lists.proofs.Truth.{never, both}
 use Rattle.print.specs.Decimal.{digit}
 use Rattle.print.specs.Lines.{feed}
-use Rattle.policy.specs.declared.Found.{Found}
-use Rattle.policy.specs.declared.Found.TheVariants.{Number, Nothing}
-use Rattle.policy.specs.declared.Told.TheVariants.{Bad}
 use Rattle.planning.specs.Policy.{Policy}
+use Rattle.std.specs.Prelude.{Option, Some, None}
+use Rattle.policy.specs.declared.Entry.{Entry}
+use Rattle.policy.specs.declared.Entry.TheVariants.{Need, Bar}
 use Rattle.policy.specs.Policy.{in_front, lines, begins, people_word, pick_found, one_digit, people_in, need_word, bar_word, members, pick_told, needs, bars, line_says}
 use Rattle.policy.specs.Policy.{is_nothing, number_in, is_bad, add_need, add_bar, required_in, forbidden_in, bad_at, bad_line, policy_in, read_policy}
-use Rattle.policy.specs.Laws.{Entry, need, bar, set_of, written_line, written_lines, people_line, written_text, required_among, forbidden_among, Named, Written, EntryLine}
+use Rattle.policy.specs.Laws.{set_of, written_line, written_lines, people_line, written_text, required_among, forbidden_among, Named, Written, EntryLine}
 use Rattle.policy.proofs.LinesLaws.{says-need, says-bar}
 use Rattle.policy.proofs.WritingLaws.{said_by, add_required, add_forbidden}
 use Rattle.policy.proofs.BadLaws.{none-behind}
@@ -66,23 +66,23 @@ pub record Told (l : List ℕ) : Type 0 where
   pub line : EntryLine l
   pub says : line_says l ≡ said_by line.entry
 
-told_by : (l : List ℕ) (t u : Bool) (f g : Found) → begins need_word l ≡ t → begins bar_word l ≡ u
-    → members 48 0 (drop 4 l) ≡ f → members 48 0 (drop 3 l) ≡ g → is_bad (pick_told t (needs f) (pick_told u (bars g) Bad)) ≡ false → Told l
+told_by : (l : List ℕ) (t u : Bool) (f g : Option ℕ) → begins need_word l ≡ t → begins bar_word l ≡ u
+    → members 48 0 (drop 4 l) ≡ f → members 48 0 (drop 3 l) ≡ g → is_bad (pick_told t (needs f) (pick_told u (bars g) None)) ≡ false → Told l
 unfolding written_line
-told_by l true u (Number s) g p q r v h =
+told_by l true u (Some s) g p q r v h =
     let m = members_shape (drop 4 l) s r in
     record {
-      line = record { entry = need s; named = m.0; written = begins-means need_word l p ∙ ap (λ (x : List ℕ). need_word ++ x) m.1 };
+      line = record { entry = Need s; named = m.0; written = begins-means need_word l p ∙ ap (λ (x : List ℕ). need_word ++ x) m.1 };
       says = says-need l p ∙ ap needs r;
     }
-told_by l true u Nothing g p q r v h = absurd (never h refl)
-told_by l false true f (Number s) p q r v h =
+told_by l true u None g p q r v h = absurd (never h refl)
+told_by l false true f (Some s) p q r v h =
     let m = members_shape (drop 3 l) s v in
     record {
-      line = record { entry = bar s; named = m.0; written = begins-means bar_word l q ∙ ap (λ (x : List ℕ). bar_word ++ x) m.1 };
+      line = record { entry = Bar s; named = m.0; written = begins-means bar_word l q ∙ ap (λ (x : List ℕ). bar_word ++ x) m.1 };
       says = says-bar l p q ∙ ap bars v;
     }
-told_by l false true f Nothing p q r v h = absurd (never h refl)
+told_by l false true f None p q r v h = absurd (never h refl)
 told_by l false false f g p q r v h = absurd (never h refl)
 
 pub told : (l : List ℕ) → is_bad (line_says l) ≡ false → Told l
@@ -118,11 +118,11 @@ entries_of (l ∷ ls) h =
     }
 
 -- ---- the first line
-found_by : (t : Bool) (f : Found) (n : ℕ) → pick_found t f Nothing ≡ Number n → (t ≡ true) × (f ≡ Number n)
+found_by : (t : Bool) (f : Option ℕ) (n : ℕ) → pick_found t f None ≡ Some n → (t ≡ true) × (f ≡ Some n)
 found_by true f n e = (refl, e)
 found_by false f n e = no_number e
 
-digit_by : (t : Bool) (d b n : ℕ) → (leb 48 d && leb d 57 && eqb b 10) ≡ t → pick_found t (Number (d - 48)) Nothing ≡ Number n
+digit_by : (t : Bool) (d b n : ℕ) → (leb 48 d && leb d 57 && eqb b 10) ≡ t → pick_found t (Some (d - 48)) None ≡ Some n
     → (n ≤ 9) × (d ∷ (b ∷ []) ≡ digit n ∷ feed)
 digit_by true d b n q e =
     let x = both (leb 48 d && leb d 57) (eqb b 10) q in
@@ -134,20 +134,20 @@ digit_by true d b n q e =
     (omega arith, ap₂ (λ (u v : ℕ). u ∷ (v ∷ [])) is (eqb-true b 10 x.1))
 digit_by false d b n q e = no_number e
 
-digit_shape : (r : List ℕ) (n : ℕ) → one_digit r ≡ Number n → (n ≤ 9) × (r ≡ digit n ∷ feed)
+digit_shape : (r : List ℕ) (n : ℕ) → one_digit r ≡ Some n → (n ≤ 9) × (r ≡ digit n ∷ feed)
 unfolding one_digit
 digit_shape [] n e = no_number e
 digit_shape (d ∷ []) n e = no_number e
 digit_shape (d ∷ (b ∷ [])) n e = digit_by (leb 48 d && leb d 57 && eqb b 10) d b n refl e
 digit_shape (d ∷ (b ∷ (c ∷ r))) n e = no_number e
 
-first_by : (x : Found) (l : List ℕ) → people_in l ≡ x → is_nothing x ≡ false → (number_in x ≤ 9) × (l ≡ people_line (number_in x))
+first_by : (x : Option ℕ) (l : List ℕ) → people_in l ≡ x → is_nothing x ≡ false → (number_in x ≤ 9) × (l ≡ people_line (number_in x))
 unfolding people_in
-first_by (Number n) l e h =
+first_by (Some n) l e h =
     let f = found_by (begins people_word l) (one_digit (drop 7 l)) n e in
     let d = digit_shape (drop 7 l) n f.1 in
     (d.0, begins-means people_word l f.0 ∙ ap (λ (x : List ℕ). people_word ++ x) d.1)
-first_by Nothing l e h = absurd (never h refl)
+first_by None l e h = absurd (never h refl)
 
 pub first_shape : (l : List ℕ) → is_nothing (people_in l) ≡ false → (number_in (people_in l) ≤ 9) × (l ≡ people_line (number_in (people_in l)))
 first_shape l h = first_by (people_in l) l refl h

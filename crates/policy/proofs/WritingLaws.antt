@@ -17,15 +17,14 @@ use Rattle.lists.proofs.Truth.{both}
 use Rattle.lists.proofs.EachLaws.{each_at}
 use Rattle.print.specs.Decimal.{digits}
 use Rattle.print.specs.Lines.{spaced, spaced_all, feed}
-use Rattle.policy.specs.declared.Found.{Found}
-use Rattle.policy.specs.declared.Found.TheVariants.{Number, Nothing}
-use Rattle.policy.specs.declared.Told.{Told}
-use Rattle.policy.specs.declared.Told.TheVariants.{Need, Bar}
 use Rattle.planning.specs.Policy.{policy_of}
+use Rattle.std.specs.Prelude.{Option, Some, None}
+use Rattle.policy.specs.declared.Entry.{Entry}
+use Rattle.policy.specs.declared.Entry.TheVariants.{Need, Bar}
 use Rattle.policy.specs.Policy.{in_front, lines, begins, one_digit, people_in, members, needs, bars, line_says}
 use Rattle.policy.specs.Policy.{is_nothing, is_bad, add_need, add_bar, required_in, forbidden_in, bad_line, policy_in, read_policy}
 use Rattle.policy.proofs.BadLaws.{text_good, none-bad}
-use Rattle.policy.specs.Laws.{Entry, need, bar, set_of, members_of, written_line, written_lines, people_line, written_text, required_among, forbidden_among, Named}
+use Rattle.policy.specs.Laws.{set_of, members_of, written_line, written_lines, people_line, written_text, required_among, forbidden_among, Named}
 
 -- ---- one line
 empty : List ℕ → Bool
@@ -53,14 +52,14 @@ line_first [] rest h = absurd (false≢true h)
 line_first (b ∷ l) rest h = line_by (eqb b 10) b l rest (line_first l rest) h
 
 -- ---- the ten first lines and the 512 sets
-is_number : ℕ → Found → Bool
-is_number n (Number m) = eqb m n
-is_number n Nothing = false
+is_number : ℕ → Option ℕ → Bool
+is_number n (Some m) = eqb m n
+is_number n None = false
 
-number_is : (n : ℕ) (f : Found) → is_number n f ≡ true → f ≡ Number n
+number_is : (n : ℕ) (f : Option ℕ) → is_number n f ≡ true → f ≡ Some n
 unfolding is_number
-number_is n (Number m) h = ap Number (eqb-true m n h)
-number_is n Nothing h = absurd (false≢true h)
+number_is n (Some m) h = ap Some (eqb-true m n h)
+number_is n None h = absurd (false≢true h)
 
 right_first : ℕ → Bool
 right_first n = is_line (people_line n) && is_number n (people_in (people_line n))
@@ -86,32 +85,31 @@ below_each test n h s l =
     let e : s + 1 - 1 ≡ s = omega arith in
     rw e at (each_at n (λ i. test (i - 1)) h (s + 1) (omega arith) (omega arith))
 
-pub first-right : (n : ℕ) → n ≤ 9 → (is_line (people_line n) ≡ true) × (people_in (people_line n) ≡ Number n)
+pub first-right : (n : ℕ) → n ≤ 9 → (is_line (people_line n) ≡ true) × (people_in (people_line n) ≡ Some n)
 unfolding right_first
 first-right n h =
     let r = both (is_line (people_line n)) (is_number n (people_in (people_line n))) (below_each right_first 10 all_first n (omega arith)) in
     (r.0, number_is n (people_in (people_line n)) r.1)
 
-set-right : (s : ℕ) → s < 512 → (is_line (body s) ≡ true) × (members 48 0 (body s) ≡ Number s)
+set-right : (s : ℕ) → s < 512 → (is_line (body s) ≡ true) × (members 48 0 (body s) ≡ Some s)
 unfolding right_set
 set-right s h =
     let r = both (is_line (body s)) (is_number s (members 48 0 (body s))) (below_each right_set 512 all-sets s h) in
     (r.0, number_is s (members 48 0 (body s)) r.1)
 
 -- ---- the line of an entry
-abbrev pub said_by : Entry → Told
-said_by (need s) = Need s
-said_by (bar s) = Bar s
+abbrev pub said_by : Entry → Option Entry
+said_by e = Some e
 
 entry-line : (e : Entry) → set_of e < 512 → is_line (written_line e) ≡ true
 unfolding written_line is_line
-entry-line (need s) h = (set-right s h).0
-entry-line (bar s) h = (set-right s h).0
+entry-line (Need s) h = (set-right s h).0
+entry-line (Bar s) h = (set-right s h).0
 
 entry-says : (e : Entry) → set_of e < 512 → line_says (written_line e) ≡ said_by e
 unfolding written_line line_says begins
-entry-says (need s) h = ap needs (set-right s h).1
-entry-says (bar s) h = ap bars (set-right s h).1
+entry-says (Need s) h = ap needs (set-right s h).1
+entry-says (Bar s) h = ap bars (set-right s h).1
 
 entry_first : (e : Entry) (rest : List ℕ) → set_of e < 512 → lines (written_line e ++ rest) ≡ written_line e ∷ lines rest
 entry_first e rest h = line_first (written_line e) rest (entry-line e h)
@@ -121,8 +119,8 @@ named-first : {e : Entry} {es : List Entry} → Named (e ∷ es) → (set_of e <
 named-first {e} {es} n = (n.named e (Memᴰ.head refl), record { named = λ x m. n.named x (Memᴰ.tail m) })
 
 pub entry_good : (e : Entry) → set_of e < 512 → is_bad (line_says (written_line e)) ≡ false
-entry_good (need s) h = ap is_bad (entry-says (need s) h)
-entry_good (bar s) h = ap is_bad (entry-says (bar s) h)
+entry_good (Need s) h = ap is_bad (entry-says (Need s) h)
+entry_good (Bar s) h = ap is_bad (entry-says (Bar s) h)
 
 lines-again : (es : List Entry) → Named es → lines (written_lines es) ≡ map written_line es
 unfolding written_lines lines
@@ -138,13 +136,13 @@ all_good (e ∷ es) n (suc i) h = all_good es (named-first n).1 i (omega arith)
 
 pub add_required : (e : Entry) (es : List Entry) → add_need (said_by e) (required_among es) ≡ required_among (e ∷ es)
 unfolding required_among
-add_required (need s) es = refl
-add_required (bar s) es = refl
+add_required (Need s) es = refl
+add_required (Bar s) es = refl
 
 pub add_forbidden : (e : Entry) (es : List Entry) → add_bar (said_by e) (forbidden_among es) ≡ forbidden_among (e ∷ es)
 unfolding forbidden_among
-add_forbidden (need s) es = refl
-add_forbidden (bar s) es = refl
+add_forbidden (Need s) es = refl
+add_forbidden (Bar s) es = refl
 
 required-again : (es : List Entry) → Named es → required_in (map written_line es) ≡ required_among es
 unfolding required_in required_among

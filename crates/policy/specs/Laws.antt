@@ -1,6 +1,6 @@
 -- The laws that this room owes; their proofs are in proofs/Laws.antt.
 -- Assumes nothing.
-use Rattle.std.specs.Prelude.{◌≡◌, ◌⊎◌, ℕ, ◌≤◌, ◌<◌, ◌^◌, length}
+use Rattle.std.specs.Prelude.{◌≡◌, ◌⊎◌, ℕ, ◌≤◌, ◌<◌, ◌^◌, length, Result}
 use mathlib.Core.List.{List, [], ◌∷◌, ◌++◌, Memᴰ}
 use Rattle.answer.specs.Outcome.{Outcome, done, refused}
 use Rattle.lists.specs.Places.{those}
@@ -8,24 +8,22 @@ use Rattle.planning.specs.Sets.{member}
 use Rattle.planning.specs.Policy.{Policy, policy_of}
 use Rattle.print.specs.Decimal.{digit}
 use Rattle.print.specs.Lines.{spaced_all, feed}
+use Rattle.answer.specs.declared.Refusal.{Refusal}
+use Rattle.policy.specs.declared.Entry.{Entry}
+use Rattle.policy.specs.declared.Entry.TheVariants.{Need, Bar}
 use Rattle.policy.specs.declared.PolicyText.{PolicyText}
 use Rattle.policy.specs.Policy.{lines, line_of, people_word, need_word, bar_word, read_policy, Holds}
 
 -- ---- writing a policy text
--- a line behind the first, to be written: a required set or a forbidden one
-pub data Entry : Type 0 where
-  need : ℕ → Entry
-  bar : ℕ → Entry
-
 -- the set of an entry
 abbrev pub set_of : Entry → ℕ
-set_of (need s) = s
-set_of (bar s) = s
+set_of (Need s) = s
+set_of (Bar s) = s
 
 -- the word of an entry
 abbrev pub word_of : Entry → List ℕ
-word_of (need s) = need_word
-word_of (bar s) = bar_word
+word_of (Need s) = need_word
+word_of (Bar s) = bar_word
 
 -- the people of a set, in rising number
 unfoldable pub members_of : ℕ → List ℕ
@@ -51,14 +49,14 @@ written_text n es = people_line n ++ written_lines es
 -- the required sets among the entries, in order
 unfoldable pub required_among : List Entry → List ℕ
 required_among [] = []
-required_among (need s ∷ es) = s ∷ required_among es
-required_among (bar s ∷ es) = required_among es
+required_among (Need s ∷ es) = s ∷ required_among es
+required_among (Bar s ∷ es) = required_among es
 
 -- the forbidden sets among the entries, in order
 unfoldable pub forbidden_among : List Entry → List ℕ
 forbidden_among [] = []
-forbidden_among (need s ∷ es) = forbidden_among es
-forbidden_among (bar s ∷ es) = s ∷ forbidden_among es
+forbidden_among (Need s ∷ es) = forbidden_among es
+forbidden_among (Bar s ∷ es) = s ∷ forbidden_among es
 
 -- each entry's set is one of the people 1 to 9
 pub record Named (es : List Entry) : Type 0 where
@@ -70,9 +68,9 @@ ReadsWritten = (n : ℕ) (es : List Entry) → n ≤ 9 → Named es → length (
     → read_policy (written_text n es) ≡ done (policy_of n (required_among es) (forbidden_among es))
 
 -- ---- one answer
--- Two values that hold the same outcome are equal: the promise of reading leaves one value for every text.
+-- Two results that hold the same outcome are equal: the promise of reading leaves one value for every text.
 abbrev pub ReadOne : Type 0
-ReadOne = (o : Outcome Policy) (x y : PolicyText) → Holds o x → Holds o y → x ≡ y
+ReadOne = (o : Outcome Policy) (x y : Result PolicyText Refusal) → Holds o x → Holds o y → x ≡ y
 
 -- ---- nothing else is read
 -- a text written from n and entries, and what reading it gives

@@ -1,17 +1,16 @@
 -- A policy text (SCOPE 7.1), and refusal 21.
 -- Assumes nothing.
-use Rattle.std.specs.Prelude.{◌≡◌, Bool, true, false, cond, ◌&&◌, List, [], ◌∷◌, ◌++◌, ℕ, ◌+◌, ◌-◌, max, ltb, leb, eqb, length, take, drop, get_or, replicate}
+use Rattle.std.specs.Prelude.{◌≡◌, Bool, true, false, cond, ◌&&◌, List, [], ◌∷◌, ℕ, ◌+◌, ◌-◌, max, ltb, leb, eqb, length, take, drop, get_or, Option, Some, None, Result, Ok, Err}
 use Rattle.answer.specs.declared.Kind.TheVariants.{Text}
-use Rattle.answer.specs.Outcome.{Outcome, done, refused, outcome}
+use Rattle.answer.specs.Outcome.{Outcome, done, refused, number}
 use Rattle.answer.specs.Checks.{line, first_fail}
 use Rattle.lists.specs.Places.{first_in, found}
 use Rattle.planning.specs.Sets.{worth}
 use Rattle.planning.specs.Policy.{Policy, policy_of}
-use Rattle.policy.specs.declared.Found.{Found}
-use Rattle.policy.specs.declared.Found.TheVariants.{Number, Nothing}
-use Rattle.policy.specs.declared.Told.{Told}
-use Rattle.policy.specs.declared.Told.TheVariants.{Need, Bar, Bad}
-use Rattle.policy.specs.declared.Sets.{Sets}
+use Rattle.answer.specs.declared.Refusal.{Refusal}
+use Rattle.arrayvec.specs.ArrayVec.{ArrayVec}
+use Rattle.policy.specs.declared.Entry.{Entry}
+use Rattle.policy.specs.declared.Entry.TheVariants.{Need, Bar}
 use Rattle.policy.specs.declared.PolicyText.{PolicyText}
 
 -- ---- lines
@@ -37,20 +36,20 @@ abbrev pub people_word : List ℕ
 people_word = 112 ∷ 101 ∷ 111 ∷ 112 ∷ 108 ∷ 101 ∷ 32 ∷ []
 
 -- one where the test holds, the other where it does not
-abbrev pub pick_found : Bool → Found → Found → Found
+abbrev pub pick_found : Bool → Option ℕ → Option ℕ → Option ℕ
 pick_found true x y = x
 pick_found false x y = y
 
 -- one of the digits 0 to 9 and the line feed, and no byte more
-unfoldable pub one_digit : List ℕ → Found
-one_digit [] = Nothing
-one_digit (d ∷ []) = Nothing
-one_digit (d ∷ (b ∷ [])) = pick_found (leb 48 d && leb d 57 && eqb b 10) (Number (d - 48)) Nothing
-one_digit (d ∷ (b ∷ (c ∷ rest))) = Nothing
+unfoldable pub one_digit : List ℕ → Option ℕ
+one_digit [] = None
+one_digit (d ∷ []) = None
+one_digit (d ∷ (b ∷ [])) = pick_found (leb 48 d && leb d 57 && eqb b 10) (Some (d - 48)) None
+one_digit (d ∷ (b ∷ (c ∷ rest))) = None
 
 -- SCOPE 7.1, line 1: the word `people`, one space, and one of the digits 0 to 9, which is the number of people
-unfoldable pub people_in : List ℕ → Found
-people_in line = pick_found (begins people_word line) (one_digit (drop 7 line)) Nothing
+unfoldable pub people_in : List ℕ → Option ℕ
+people_in line = pick_found (begins people_word line) (one_digit (drop 7 line)) None
 
 -- ---- the other lines
 -- `need`
@@ -63,60 +62,67 @@ bar_word = 98 ∷ 97 ∷ 114 ∷ []
 
 -- people, or nobody, each as one space and one of the digits 1 to 9, each digit greater than the one before it; and the line feed: their
 -- set, with those of `set`. `last` is the byte of the digit before, that of 0 before the first.
-unfoldable pub members : ℕ → ℕ → List ℕ → Found
-members last set [] = Nothing
-members last set (b ∷ []) = pick_found (eqb b 10) (Number set) Nothing
-members last set (b ∷ (d ∷ rest)) = pick_found (eqb b 32 && ltb last d && leb d 57) (members d (set + worth (d - 48)) rest) Nothing
+unfoldable pub members : ℕ → ℕ → List ℕ → Option ℕ
+members last set [] = None
+members last set (b ∷ []) = pick_found (eqb b 10) (Some set) None
+members last set (b ∷ (d ∷ rest)) = pick_found (eqb b 32 && ltb last d && leb d 57) (members d (set + worth (d - 48)) rest) None
 
 -- one where the test holds, the other where it does not
-abbrev pub pick_told : Bool → Told → Told → Told
+abbrev pub pick_told : Bool → Option Entry → Option Entry → Option Entry
 pick_told true x y = x
 pick_told false x y = y
 
 -- a required set, where one was found
-abbrev pub needs : Found → Told
-needs (Number s) = Need s
-needs Nothing = Bad
+abbrev pub needs : Option ℕ → Option Entry
+needs (Some s) = Some (Need s)
+needs None = None
 
 -- a forbidden set, where one was found
-abbrev pub bars : Found → Told
-bars (Number s) = Bar s
-bars Nothing = Bad
+abbrev pub bars : Option ℕ → Option Entry
+bars (Some s) = Some (Bar s)
+bars None = None
 
--- SCOPE 7.1, each other line: what it says, by its word `need` or `bar`
-unfoldable pub line_says : List ℕ → Told
+-- SCOPE 7.1, each other line: the set that it gives, by its word `need` or `bar`
+unfoldable pub line_says : List ℕ → Option Entry
 line_says line =
     pick_told (begins need_word line) (needs (members 48 0 (drop 4 line)))
-    (pick_told (begins bar_word line) (bars (members 48 0 (drop 3 line))) Bad)
+    (pick_told (begins bar_word line) (bars (members 48 0 (drop 3 line))) None)
 
 -- ---- the text
 -- no number was found
-abbrev pub is_nothing : Found → Bool
-is_nothing (Number n) = false
-is_nothing Nothing = true
+abbrev pub is_nothing : Option ℕ → Bool
+is_nothing (Some n) = false
+is_nothing None = true
 
 -- the number that was found
-abbrev pub number_in : Found → ℕ
-number_in (Number n) = n
-number_in Nothing = 0
+abbrev pub number_in : Option ℕ → ℕ
+number_in (Some n) = n
+number_in None = 0
 
 -- the line is bad
-abbrev pub is_bad : Told → Bool
-is_bad (Need s) = false
-is_bad (Bar s) = false
-is_bad Bad = true
+abbrev pub is_bad : Option Entry → Bool
+is_bad (Some e) = false
+is_bad None = true
+
+-- a required set goes in front of the others
+abbrev pub need_first : Entry → List ℕ → List ℕ
+need_first (Need s) sets = s ∷ sets
+need_first (Bar s) sets = sets
+
+-- a forbidden set goes in front of the others
+abbrev pub bar_first : Entry → List ℕ → List ℕ
+bar_first (Need s) sets = sets
+bar_first (Bar s) sets = s ∷ sets
 
 -- a line `need` adds its set in front of the others
-abbrev pub add_need : Told → List ℕ → List ℕ
-add_need (Need s) sets = s ∷ sets
-add_need (Bar s) sets = sets
-add_need Bad sets = sets
+abbrev pub add_need : Option Entry → List ℕ → List ℕ
+add_need (Some e) sets = need_first e sets
+add_need None sets = sets
 
 -- a line `bar` adds its set in front of the others
-abbrev pub add_bar : Told → List ℕ → List ℕ
-add_bar (Need s) sets = sets
-add_bar (Bar s) sets = s ∷ sets
-add_bar Bad sets = sets
+abbrev pub add_bar : Option Entry → List ℕ → List ℕ
+add_bar (Some e) sets = bar_first e sets
+add_bar None sets = sets
 
 -- the sets of the lines `need`, in order
 unfoldable pub required_in : List (List ℕ) → List ℕ
@@ -151,28 +157,19 @@ read_policy text =
     (done (policy_in (lines text)))
 
 -- ---- what a call hands back
--- the first 257 sets of a list, and zeros behind them; how many they are: a list of 257 sets is too long already
-pub record Keeps (sets : List ℕ) (kept : Sets) : Type 0 where
-  pub filled : kept.sets ≡ take 257 sets ++ replicate (257 - length sets) 0
-  pub counted : kept.count ≡ length (take 257 sets)
+-- the first 257 sets of a list: a list of 257 sets is too long already
+abbrev pub Keeps : List ℕ → ArrayVec ℕ → Type 0
+Keeps sets kept = kept.items ≡ take 257 sets
 
--- the people of a readable text, or its refusal
-abbrev pub people_of : Outcome Policy → Outcome ℕ
-people_of (done p) = done p.people
-people_of (refused m a b) = refused m a b
+-- the people of a policy and its two lists
+pub record Says (p : Policy) (text : PolicyText) : Type 0 where
+  pub people : text.people ≡ p.people
+  pub required : Keeps p.required text.required
+  pub forbidden : Keeps p.forbidden text.forbidden
 
--- the required sets of a readable text; a refused text has no sets
-abbrev pub required_of : Outcome Policy → List ℕ
-required_of (done p) = p.required
-required_of (refused m a b) = []
-
--- the forbidden sets of a readable text; a refused text has no sets
-abbrev pub forbidden_of : Outcome Policy → List ℕ
-forbidden_of (done p) = p.forbidden
-forbidden_of (refused m a b) = []
-
--- the value holds the outcome: people or TEXT, and the two lists
-pub record Holds (o : Outcome Policy) (held : PolicyText) : Type 0 where
-  pub says : outcome held.answer ≡ people_of o
-  pub required : Keeps (required_of o) held.required
-  pub forbidden : Keeps (forbidden_of o) held.forbidden
+-- the result holds the outcome: the people and the two lists, or TEXT
+abbrev pub Holds : Outcome Policy → Result PolicyText Refusal → Type 0
+Holds (done p) (Ok text) = Says p text
+Holds (done p) (Err refusal) = ⊥
+Holds (refused m a b) (Ok text) = ⊥
+Holds (refused m a b) (Err refusal) = (number refusal.kind ≡ m) × (refusal.a ≡ a) × (refusal.b ≡ b)

@@ -1,7 +1,7 @@
--- A number in decimal: how many digits it has, what they mean, and the two loops that count and write them.
+-- A number in decimal: how many digits it has, that the library writes them, and what they mean.
 -- Assumes nothing.
 use borrow.Author.Tests.{lt-ltb, le-ltb, ltb-true, ltb-false}
-use mathlib.Core.Path.{◌≡◌, refl, sym, ap, ◌∙◌}
+use mathlib.Core.Path.{◌≡◌, refl, ap, ◌∙◌}
 use mathlib.Core.Bool.{Bool, true, false}
 use mathlib.Core.Logic.{◌⊎◌, inl, inr, ⊎_elim}
 use mathlib.Core.List.{List, [], ◌∷◌, ◌++◌}
@@ -9,12 +9,12 @@ use native.Mathlib.Nat.{not-suc-le-zero}
 use native.Mathlib.Omega.{arith}
 use Prim.Native.Nat.{ℕ, zero, suc, ◌+◌, ◌-◌, ◌*◌, ◌/◌, ◌%◌, ◌^◌, ◌≤◌, ◌<◌}
 use lib.Dec.{ltb}
-use lib.ListN.{length, get_or, set, length-append, get_or-append}
+use lib.ListN.{length, get_or, length-append, get_or-append}
 use lib.Seq.{get_or_at}
+use Rattle.std.specs.Fmt.{decimal as std·decimal}
+use Rattle.std.proofs.lemmas.Fmt.{AppendsLastDigit, decimal_from_appends, length-decimal-le}
 use Rattle.print.specs.Decimal.{digit, digits, decimal, meaning}
-use Rattle.print.specs.Inner.{written}
 use Rattle.print.specs.Laws.{Spells}
-use Rattle.print.proofs.WrittenLaws.{stored_last, written_none}
 
 -- a number is below another or not
 pub below : (a b : ℕ) → (a < b) ⊎ (b ≤ a)
@@ -53,69 +53,12 @@ few (suc most) (suc k) n h =
     ⊎_elim (λ (l : n < 10). omega (arith, ap length (digits_one most n l)))
     (λ (l : 10 ≤ n). omega (arith, one_more most n l, few most k (n / 10) (tenth (suc k) n h))) (below n 10)
 
--- ---- the loop that counts them: `count` are counted, `rest` has the others, at most `most` in all that are left
-pub record Counting (n count rest : ℕ) : Type 0 where
-  pub most : ℕ
-  pub small : rest < 10 ^ suc most
-  pub counted : length (decimal n) + 1 ≡ count + length (digits (suc most) rest)
-  pub few-counted : count + most ≤ 20
+-- ---- they are those that the library writes
+appends : AppendsLastDigit digits
+appends = record { one = digits_one; more = digits_more }
 
-pub counting_first : (n : ℕ) → n < 18446744073709551616 → Counting n 1 n
-counting_first n h = record { most = 19; small = omega arith; counted = omega arith; few-counted = omega arith }
-
-counting_less : (n count rest most : ℕ) → 10 ≤ rest → rest < 10 ^ suc most → length (decimal n) + 1 ≡ count + length (digits (suc most) rest)
-    → count + most ≤ 20 → Counting n (count + 1) (rest / 10)
-counting_less n count rest zero h s e f = absurd (omega arith)
-counting_less n count rest (suc most) h s e f = record {
-  most = most;
-  small = tenth (suc most) rest s;
-  counted = omega (arith, one_more (suc most) rest h);
-  few-counted = omega arith;
-}
-
-pub counting_more : (n count rest : ℕ) → 10 ≤ rest → Counting n count rest → Counting n (count + 1) (rest / 10)
-counting_more n count rest h c = counting_less n count rest c.most h c.small c.counted c.few-counted
-
-pub counting_done : (n count rest : ℕ) → rest < 10 → Counting n count rest → count ≡ length (decimal n)
-counting_done n count rest h c = omega (arith, c.counted, ap length (digits_one c.most rest h))
-
--- ---- they are the number's last digits
-unfoldable pub last_digits : ℕ → ℕ → List ℕ
-last_digits zero n = []
-last_digits (suc k) n = last_digits k (n / 10) ++ digit (n % 10) ∷ []
-
-length_last : (k n : ℕ) → length (last_digits k n) ≡ k
-unfolding last_digits
-length_last zero n = refl
-length_last (suc k) n = omega (arith, length-append (last_digits k (n / 10)) (digit (n % 10) ∷ []), length_last k (n / 10))
-
-all_last : (most n : ℕ) → digits most n ≡ last_digits (length (digits most n)) n
-unfolding digits last_digits
-all_last zero n = refl
-all_last (suc most) n =
-    ⊎_elim
-    (λ (h : n < 10). let e : n % 10 ≡ n = omega arith in rw (digits_one most n h) (rw e))
-    (λ (h : 10 ≤ n).
-    let s : length (digits most (n / 10)) + 1 ≡ suc (length (digits most (n / 10))) = omega arith in
-    rw (one_more most n h, s, digits_more most n h, ← all_last most (n / 10)))
-    (below n 10)
-
--- ---- the loop that writes them, the last first: the buffer with the i first digits still to be written is the answer
-pub spelled_turn : (at i rest : ℕ) (out : List ℕ) → 0 < i → at + i ≤ length out
-    → written at (last_digits (i - 1) (rest / 10)) (set out (at + (i - 1)) (digit (rest % 10))) ≡ written at (last_digits i rest) out
-unfolding last_digits
-spelled_turn at zero rest out p h = absurd (omega arith)
-spelled_turn at (suc k) rest out p h =
-    let e : suc k - 1 ≡ k = omega arith in
-    let l = length_last k (rest / 10) in
-    rw e (sym (rw l at (stored_last at (last_digits k (rest / 10)) out (digit (rest % 10)) (rw l (omega arith)))))
-
-pub spelled_first : (at n count : ℕ) (out : List ℕ) → count ≡ length (decimal n) → written at (last_digits count n) out ≡ written at (decimal n) out
-spelled_first at n count out e = ap (λ (l : List ℕ). written at l out) (ap (λ (k : ℕ). last_digits k n) e ∙ sym (all_last 20 n))
-
-pub spelled_done : (at i rest : ℕ) (out : List ℕ) → i ≡ 0 → written at (last_digits i rest) out ≡ out
-unfolding last_digits
-spelled_done at i rest out e = rw e (written_none at out)
+pub as_the_library : (n : ℕ) → n < 2 ^ 64 → decimal n ≡ std·decimal n
+as_the_library n h = decimal_from_appends digits appends 20 n h (length-decimal-le 20 n (omega arith) (omega arith) h)
 
 -- ---- what they mean
 meaning_end : (front d : ℕ) (ds : List ℕ) → meaning front (ds ++ d ∷ []) ≡ 10 * meaning front ds + (d - 48)

@@ -11,6 +11,7 @@ use lib.Seq.{take-suc}
 use Rattle.answer.specs.declared.Kind.{Kind}
 use Rattle.answer.specs.declared.Kind.TheVariants as kind
 use Rattle.answer.specs.Outcome.{number}
+use Rattle.print.specs.declared.page.Page.{Page}
 use Rattle.print.specs.Inner.{Room, Writes}
 use Rattle.print.specs.Lines.{spaced, spaced_all, feed, label, pair_line, rising, refused_word, secret_word, refused_line, secret_line}
 use Rattle.print.proofs.DecimalLaws.{few}
@@ -33,19 +34,19 @@ module _ (ns : List ℕ) (i : ℕ) (h : i < length ns) where
       rw (e, take-suc ns i 0 h) (spaced_end (take i ns) (get_or ns i 0))
 
   -- the room for all is room for the next
-  room_so_far : {old : List ℕ} {at : ℕ} → Room (spaced_all ns) at old → Room (spaced_all (take i ns) ++ spaced (get_or ns i 0)) at old
-  room_so_far {old} {at} r =
+  room_so_far : {old : Page} → Room (spaced_all ns) old → Room (spaced_all (take i ns) ++ spaced (get_or ns i 0)) old
+  room_so_far {old} r =
       let e : spaced_all ns ≡ (spaced_all (take i ns) ++ spaced (get_or ns i 0)) ++ spaced_all (drop (i + 1) ns) =
       ap spaced_all (sym (take-append-drop (i + 1) ns)) ∙ spaced-append (take (i + 1) ns) (drop (i + 1) ns)
       ∙ ap (λ (l : List ℕ). l ++ spaced_all (drop (i + 1) ns)) one_more
       in
-      room-first (spaced_all (take i ns) ++ spaced (get_or ns i 0)) (spaced_all (drop (i + 1) ns)) (subst (λ (l : List ℕ). Room l at old) e r)
+      room-first (spaced_all (take i ns) ++ spaced (get_or ns i 0)) (spaced_all (drop (i + 1) ns)) (subst (λ (l : List ℕ). Room l old) e r)
 
-  module _ {old mid : List ℕ} {at p : ℕ} (w : Writes (spaced_all (take i ns)) at old mid p) (r : Room (spaced_all ns) at old) where
-    pub words-room : Room (spaced (get_or ns i 0)) p mid
+  module _ {old mid : Page} (w : Writes (spaced_all (take i ns)) old mid) (r : Room (spaced_all ns) old) where
+    pub words-room : Room (spaced (get_or ns i 0)) mid
     words-room = room_next (spaced (get_or ns i 0)) w (room_so_far r)
 
-    pub words_turn : {now : List ℕ} {q : ℕ} → Writes (spaced (get_or ns i 0)) p mid now q → Writes (spaced_all (take (i + 1) ns)) at old now q
+    pub words_turn : {now : Page} → Writes (spaced (get_or ns i 0)) mid now → Writes (spaced_all (take (i + 1) ns)) old now
     words_turn v = retold (sym one_more) (◌then◌ w v (room_so_far r))
 
 -- ---- lines one after another

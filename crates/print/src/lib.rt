@@ -1,9 +1,8 @@
 // What the programs print: numbers in decimal, the refusal line, the secret line.
 #![tactic(auto)]
 
-mod decimal; // decimal.rt: a number in decimal
-mod lines; // lines.rt: bytes and numbers one behind the other, and the two lines
+mod lines; // lines.rt: the two lines
+mod page; // page.rt: bytes and numbers, one behind the other
 
-pub use lines::{
-    refused_line, secret_line, write_bytes, write_label, write_number, write_pair, write_refusal,
-};
+pub use lines::{refused_line, secret_line};
+pub use page::Page;

@@ -17,7 +17,9 @@ use Rattle.block.proofs.OpenLaws.{opening-block, dirty_speaks, speaks_dirty, whi
 use Rattle.block.proofs.ValueLaws as value
 use Rattle.pile.specs.Blocks.{blocks, rest_from}
 use Rattle.pile.proofs.PileLaws.{rest_long}
-use Rattle.reader.specs.declared.Seen.TheVariants.{Head, Refused, Ended}
+use Rattle.std.specs.Prelude.{Some, None, Ok, Err}
+use Rattle.answer.specs.declared.Refusal.{Refusal}
+use Rattle.block.specs.declared.Words.{Words}
 use Rattle.reader.specs.Seeing.{told, counted, opening_at, seeing, after, values_of, values_from, place_after}
 use Rattle.reader.specs.Laws as law
 use Rattle.reader.proofs.SeeingLaws.{counted-lines, counted-opening, seeing-block, seeing-torn, seeing-ended, after_block, after_stays, values_in}
@@ -25,19 +27,19 @@ use Rattle.reader.proofs.ReadingLaws.{not_ended}
 
 -- ---- one answer
 pub sight_one : law.SightOne
-sight_one (Head h) (Head k) e = let q : words_of h ≡ words_of k = cc in ap Head (words_one h k q)
-sight_one (Head h) (Refused s) e = cc
-sight_one (Head h) Ended e = cc
-sight_one (Refused r) (Head k) e = cc
-sight_one (Refused r) (Refused s) e =
+sight_one (Some (Ok h)) (Some (Ok k)) e = let q : words_of h ≡ words_of k = cc in ap (λ (w : Words). Some (Ok w)) (words_one h k q)
+sight_one (Some (Ok h)) (Some (Err s)) e = cc
+sight_one (Some (Ok h)) None e = cc
+sight_one (Some (Err r)) (Some (Ok k)) e = cc
+sight_one (Some (Err r)) (Some (Err s)) e =
     let n : number r.kind ≡ number s.kind = cc in
     let p : r.a ≡ s.a = cc in
     let q : r.b ≡ s.b = cc in
-    ap Refused (refusal_one r s n p q)
-sight_one (Refused r) Ended e = cc
-sight_one Ended (Head k) e = cc
-sight_one Ended (Refused s) e = cc
-sight_one Ended Ended e = refl
+    ap (λ (f : Refusal). Some (Err f)) (refusal_one r s n p q)
+sight_one (Some (Err r)) None e = cc
+sight_one None (Some (Ok k)) e = cc
+sight_one None (Some (Err s)) e = cc
+sight_one None None e = refl
 
 -- ---- the place
 pub one_step : law.OneStep

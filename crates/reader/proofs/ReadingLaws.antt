@@ -16,7 +16,7 @@ use Rattle.block.specs.Open.{block_lines}
 use Rattle.pile.specs.Blocks.{blocks, rest_from}
 use Rattle.pile.specs.Lines.{torn_pile, lines_from, every_block}
 use Rattle.reader.specs.Seeing.{told, ended, opening_at, seeing, after, reading}
-use Rattle.reader.proofs.SeeingLaws.{seeing-block, seeing-torn, seeing-ended, after_block}
+use Rattle.reader.proofs.SeeingLaws.{seeing-block, seeing-torn, seeing-ended, after_block, after_stays}
 
 -- ---- what an answer says of the place
 pub not_ended : {B : Type 0} {o : Outcome (List ℕ)} → told o ≡ ended → B
@@ -121,3 +121,11 @@ ended_at pile n t e = go (dec_le (n + 1) (blocks pile)) (dec_le (length pile) (5
     go (yes h) d = not_ended (sym (e ∙ seeing-block pile n (omega arith)))
     go (no f) (yes g) = sym (even_last pile n t g)
     go (no f) (no g) = not_ended (sym (e ∙ seeing-torn pile n (omega arith) (omega arith)))
+
+-- and the reader does not move
+pub ended_stays : (pile : List ℕ) (n : ℕ) → ended ≡ seeing pile n → after pile n ≡ n
+ended_stays pile n e = go (dec_le (n + 1) (blocks pile))
+  where
+    go : Dec (n + 1 ≤ blocks pile) → after pile n ≡ n
+    go (yes h) = not_ended (sym (e ∙ seeing-block pile n (omega arith)))
+    go (no f) = after_stays pile n (omega arith)

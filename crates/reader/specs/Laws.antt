@@ -1,17 +1,18 @@
 -- The laws that the reader owes; their proofs are in proofs/Laws.antt.
 -- Assumes nothing.
-use Rattle.std.specs.Prelude.{ℕ, ◌+◌, ◌*◌, ◌%◌, ◌≤◌, ◌<◌, ◌≡◌, ◌≢◌, ◌↔◌, List, [], length}
+use Rattle.std.specs.Prelude.{ℕ, ◌+◌, ◌*◌, ◌%◌, ◌≤◌, ◌<◌, ◌≡◌, ◌≢◌, ◌↔◌, List, [], length, Option, Result}
 use Rattle.lists.specs.Laws.{IsFirst}
 use Rattle.answer.specs.declared.Kind.TheVariants.{Unread}
 use Rattle.answer.specs.Outcome.{refused, number}
 use Rattle.block.specs.Open.{above, opening, value_bytes, value_start}
 use Rattle.pile.specs.Blocks.{blocks, rest_from}
-use Rattle.reader.specs.declared.Seen.{Seen}
+use Rattle.answer.specs.declared.Refusal.{Refusal}
+use Rattle.block.specs.declared.Words.{Words}
 use Rattle.reader.specs.Seeing.{told, ended, sight, counted, seeing, after, values_of, values_from, place_after, answer_of}
 
 -- Equal outcomes, equal answers: the promise `sight r ≡ ..` leaves one possible answer.
 abbrev pub SightOne : Type 0
-SightOne = (x y : Seen) → sight x ≡ sight y → x ≡ y
+SightOne = (x y : Option (Result Words Refusal)) → sight x ≡ sight y → x ≡ y
 
 -- SCOPE 5: from the front, answer a is what opening block a answers, except that its place a is the block's number in the pile.
 abbrev pub FromFront : Type 0

@@ -1,15 +1,15 @@
 -- What the reader answers (SCOPE 5), by its pile and how far it has come: n blocks were passed, so the next is block n + 1.
 -- Assumes nothing.
-use Rattle.std.specs.Prelude.{ℕ, zero, suc, ◌+◌, ◌-◌, ◌*◌, ◌≡◌, Bool, cond, ◌&&◌, List, [], ◌∷◌, ◌++◌, length, leb}
+use Rattle.std.specs.Prelude.{ℕ, zero, suc, ◌+◌, ◌-◌, ◌*◌, ◌≡◌, Bool, cond, ◌&&◌, List, [], ◌∷◌, ◌++◌, length, leb, Option, Some, None, Result}
 use Rattle.std.specs.Borrow.{Bor}
-use Rattle.answer.specs.Outcome.{Outcome, done, refused, number}
+use Rattle.answer.specs.declared.Refusal.{Refusal}
+use Rattle.answer.specs.Outcome.{Outcome, done, refused}
 use Rattle.answer.specs.Checks.{first_fail}
 use Rattle.block.specs.Layout.{front_words}
-use Rattle.block.specs.Open.{block_lines, value_bytes, value_start, words_of}
+use Rattle.block.specs.declared.Words.{Words}
+use Rattle.block.specs.Open.{block_lines, value_bytes, value_start, opened}
 use Rattle.pile.specs.Blocks.{blocks, rest_from}
 use Rattle.pile.specs.Lines.{every_block, torn_pile}
-use Rattle.reader.specs.declared.Seen.{Seen}
-use Rattle.reader.specs.declared.Seen.TheVariants.{Head, Refused, Ended}
 use Rattle.reader.specs.declared.Reader.{Reader}
 
 -- what is said of the next block: what opening says of one, or that the pile is at its end
@@ -18,10 +18,9 @@ pub data Sight : Type 0 where
   ended : Sight
 
 -- what the code's answer says
-abbrev pub sight : Seen → Sight
-sight (Head h) = told (done (words_of h))
-sight (Refused r) = told (refused (number r.kind) r.a r.b)
-sight Ended = ended
+abbrev pub sight : Option (Result Words Refusal) → Sight
+sight (Some words) = told (opened words)
+sight None = ended
 
 -- by what is left of the pile: 512 bytes or more, fewer but some, or none
 abbrev pub by_left : {A : Type 0} → List ℕ → A → A → A → A

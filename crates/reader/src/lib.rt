@@ -6,18 +6,13 @@
 ghost use Rattle.std.specs.Prelude.{◌≡◌};
 ghost use Rattle.answer.specs.Outcome.{outcome};
 ghost use Rattle.block.specs.Open.{opened};
-ghost use Rattle.reader.specs.Seeing.{told, sight, counted, seeing, after, ValuesIn, stepped, reading};
+ghost use Rattle.reader.specs.Seeing.{sight, counted, seeing, after, ValuesIn, stepped, reading};
 
 use answer::{Answer, Kind, Refusal};
-use block::{Opened, Words};
+use block::Words;
 
-// What the reader answers: words 1 to 7 of a block, a refusal, or that the pile is at its end.
-#[derive(Clone, Copy)]
-pub enum Seen {
-    Head(Words),
-    Refused(Refusal),
-    Ended,
-}
+// What the reader answers: words 1 to 7 of a block, or a refusal; or nothing, where the pile is at its end.
+pub type Seen = Option<Result<Words, Refusal>>;
 
 // A pile, and how many of its blocks were passed: 0 at the front, and else the number of the block passed last.
 #[derive(Clone, Copy)]
@@ -34,21 +29,10 @@ pub struct Step {
 }
 
 // What opening a block says, with a replaced by the block's number in the pile.
-fn count_in(o: Opened, a: usize) -> Seen
-    ensures { sight result ≡ told (counted a (opened o)) }
+fn count_in(words: Result<Words, Refusal>, a: usize) -> Result<Words, Refusal>
+    ensures { opened result ≡ counted a (opened words) }
 {
-    match o {
-        Opened::Head(h) => Seen::Head(h),
-        Opened::Refused(r) => {
-            let kind = r.kind;
-            let b = r.b;
-            Seen::Refused(Refusal {
-                kind: kind,
-                a: a,
-                b: b,
-            })
-        }
-    }
+    words.map_err(|refusal| Refusal { a, ..refusal })
 }
 
 // What the block after so many passed ones answers. A product is taken only where it is at most the pile's length.
@@ -58,21 +42,16 @@ pub fn seen_at(pile: &[u8], passed: usize) -> Seen
     let n = pile.len();
     let whole = n / 512;
     if passed < whole {
-        let at = 512 * passed;
-        let o = block::open(&pile[at..]);
-        return count_in(o, passed + 1);
+        let words = block::open(&pile[512 * passed..]);
+        return Some(count_in(words, passed + 1));
     }
     if whole < passed {
-        return Seen::Ended;
+        return None;
     }
     if 512 * whole == n {
-        return Seen::Ended;
+        return None;
     }
-    Seen::Refused(Refusal {
-        kind: Kind::Torn,
-        a: 0,
-        b: 0,
-    })
+    Some(answer::refuse(Kind::Torn, 0, 0))
 }
 
 // How many blocks are passed after that answer.
@@ -111,11 +90,23 @@ pub fn new<'a>(pile: &'a [u8]) -> Reader<'a>
 pub fn next<'s, 'a>(r: &'s mut Reader<'a>) -> Seen
     ensures { (sight result ≡ seeing r.old.pile.now r.old.block) × (r.new ≡ stepped r.old) }
 {
-    let pile = r.pile;
-    let passed = r.block;
-    let seen = seen_at(pile, passed);
-    r.block = after(pile, passed);
+    let seen = seen_at(r.pile, r.block);
+    r.block = after(r.pile, r.block);
     seen
+}
+
+// The answers for the blocks in turn. After the last block it ends; where bytes are left over it answers TORN from there on.
+impl Iterator for Reader<'_> {
+    type Item = Result<Words, Refusal>;
+
+    ghost use Rattle.std.specs.Prelude.{◌≡◌};
+    ghost use Rattle.reader.specs.Seeing.{sight, seeing, stepped};
+
+    ghost next_gives = { λ r seen s. (sight seen ≡ seeing r.pile.now r.block) × (s ≡ stepped r) };
+
+    fn next(&mut self) -> Seen {
+        next(self)
+    }
 }
 
 // The value bytes of the block passed last: after `next` has answered with words 1 to 7, those of that block. TORN and the end pass no
@@ -124,13 +115,6 @@ pub fn values<'a>(r: Reader<'a>) -> &'a [u8]
     ensures { ValuesIn r.entry.pile r.entry.block result }
 {
     values_of(r.pile, r.block)
-}
-
-// An answer and the place after it, put together.
-fn at_place(seen: Seen, block: usize) -> Step
-    ensures { (result.seen ≡ seen) × (result.block ≡ block) }
-{
-    Step { seen, block }
 }
 
 // What `next` answers after so many blocks, and how many are passed then: for callers that keep a pile and a number.
@@ -142,27 +126,19 @@ pub fn read_at(pile: &[u8], passed: usize) -> Step
         block: passed,
     };
     let seen = next(&mut r);
-    at_place(seen, r.block)
+    Step {
+        seen,
+        block: r.block,
+    }
 }
 
 // Reads a pile from the front to its end, or to the first refusal: how many blocks it has, or that refusal.
 pub fn read_all(pile: &[u8]) -> Answer
     ensures { outcome result ≡ reading pile.now }
 {
-    let mut passed: usize = 0;
-    loop {
-        let s = read_at(pile, passed);
-        let seen = s.seen;
-        match seen {
-            Seen::Head(_) => {
-                passed = s.block;
-            }
-            Seen::Refused(r) => {
-                return Answer::Refused(r);
-            }
-            Seen::Ended => {
-                return Answer::Done(passed);
-            }
-        }
+    let mut r = new(pile);
+    while let Some(seen) = next(&mut r) {
+        seen?;
     }
+    Ok(r.block)
 }

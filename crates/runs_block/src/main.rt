@@ -5,7 +5,7 @@
 
 ghost use Rattle.std.specs.Prelude.{◌≡◌, ◌≤◌, length};
 
-use block::{Label, Opened};
+use block::Label;
 use std::io;
 use std::io::Write;
 
@@ -13,15 +13,9 @@ fn number(to: &mut impl Write, n: u64) -> io::Result<()> {
     write!(to, " {n}")
 }
 
-fn wide(x: u8) -> u64 {
-    x as u64
-}
-
 fn show_bytes(to: &mut impl Write, b: &[u8]) -> io::Result<()> {
-    let mut i: usize = 0;
-    while i < b.len() {
-        number(to, wide(b[i]))?;
-        i += 1;
+    for &byte in b {
+        number(to, u64::from(byte))?;
     }
     Ok(())
 }
@@ -29,7 +23,7 @@ fn show_bytes(to: &mut impl Write, b: &[u8]) -> io::Result<()> {
 // What opening says, and the value bytes.
 fn show(to: &mut impl Write, pile: &[u8]) -> io::Result<()> {
     match block::open(pile) {
-        Opened::Head(h) => {
+        Ok(h) => {
             to.write_all(b" words")?;
             number(to, h.mark as u64)?;
             number(to, h.deal as u64)?;
@@ -39,10 +33,9 @@ fn show(to: &mut impl Write, pile: &[u8]) -> io::Result<()> {
             number(to, h.width as u64)?;
             number(to, h.piece as u64)?;
         }
-        Opened::Refused(r) => {
-            let kind = r.kind;
+        Err(r) => {
             to.write_all(b" refused")?;
-            number(to, answer::number_of(kind) as u64)?;
+            number(to, usize::from(r.kind) as u64)?;
             number(to, r.a as u64)?;
             number(to, r.b as u64)?;
         }

@@ -1,107 +1,118 @@
 // Every refusal, and which comes first.
-use crate::{case, deal};
+use crate::{P1, case};
+use dealing::Deal;
+use planning::Policy;
 use std::io;
 use std::io::Write;
 
 // P1's policy with this number, year and holder, and one secret word d with three coefficients, c last.
 fn one(
     to: &mut impl Write,
-    name: &[u8],
-    deal_number: usize,
+    name: &str,
+    number: usize,
     year: usize,
     holder: usize,
     d: u16,
     c: u16,
     room: usize,
 ) -> io::Result<()> {
-    let required = [3u16, 6, 12];
-    let forbidden = [9u16];
-    let secret = [d];
-    let random = [5u16, 7, c];
-    let mut out = [9u8; 1024];
-    deal(
-        to,
-        name,
-        4,
-        &required,
-        &forbidden,
-        deal_number,
+    let deal = Deal {
+        policy: P1,
+        number,
         year,
-        holder,
-        &secret,
-        &random,
-        &mut out,
-        room,
-    )
+        secret: &[d],
+        random: &[5, 7, c],
+    };
+    case(to, name, deal, holder, room)
 }
 
-// P1's policy with other secrets and other randomness.
-fn lengths(to: &mut impl Write, name: &[u8], secret: &[u16], random: &[u16]) -> io::Result<()> {
-    let required = [3u16, 6, 12];
-    let none = [0u16; 0];
-    case(to, name, 4, &required, &none, 0, 1, secret, random, 1024)
+// P1's required sets with other secrets and other randomness.
+fn lengths<'a>(
+    to: &mut impl Write,
+    name: &str,
+    secret: &'a [u16],
+    random: &'a [u16],
+) -> io::Result<()> {
+    let policy = Policy {
+        people: 4,
+        required: &[3, 6, 12],
+        forbidden: &[],
+    };
+    let deal = Deal {
+        policy,
+        number: 7,
+        year: 0,
+        secret,
+        random,
+    };
+    case(to, name, deal, 1, 1024)
 }
 
 // A policy that planning refuses, with all else right but the randomness.
-fn bad(
+fn bad<'a>(
     to: &mut impl Write,
-    name: &[u8],
+    name: &str,
     people: usize,
-    required: &[u16],
-    forbidden: &[u16],
+    required: &'a [u16],
+    forbidden: &'a [u16],
 ) -> io::Result<()> {
-    let none = [0u16; 0];
-    let secret = [1u16];
-    case(
-        to, name, people, required, forbidden, 0, 1, &secret, &none, 512,
-    )
+    let policy = Policy {
+        people,
+        required,
+        forbidden,
+    };
+    let deal = Deal {
+        policy,
+        number: 7,
+        year: 0,
+        secret: &[1],
+        random: &[],
+    };
+    case(to, name, deal, 1, 512)
 }
 
 // Refusals 1 to 6 and 22, as planning gives them.
 fn policies(to: &mut impl Write) -> io::Result<()> {
-    let none = [0u16; 0];
-    let first = [1u16];
-    let both = [3u16];
-    let alone = [3u16, 2, 1];
-    let open = [1u16, 0];
     let stranger = [1u16, 3, 4];
     let long = [1u16; 257];
-    bad(to, b"no people, holder", 0, &first, &none)?;
-    bad(to, b"nine people, holder", 9, &first, &none)?;
-    bad(to, b"257 required sets, holder", 2, &long, &none)?;
-    bad(to, b"257 forbidden sets, holder", 2, &first, &long)?;
-    bad(to, b"a stranger, holder", 2, &stranger, &none)?;
-    bad(to, b"a forbidden stranger, holder", 2, &first, &stranger)?;
-    bad(to, b"no required set, holder", 2, &none, &first)?;
-    bad(to, b"an empty required set, holder", 2, &open, &none)?;
-    bad(to, b"a required set of one, holder", 2, &alone, &none)?;
-    bad(to, b"clash, holder", 2, &both, &both)
+    bad(to, "no people, holder", 0, &[1], &[])?;
+    bad(to, "nine people, holder", 9, &[1], &[])?;
+    bad(to, "257 required sets, holder", 2, &long, &[])?;
+    bad(to, "257 forbidden sets, holder", 2, &[1], &long)?;
+    bad(to, "a stranger, holder", 2, &stranger, &[])?;
+    bad(to, "a forbidden stranger, holder", 2, &[1], &stranger)?;
+    bad(to, "no required set, holder", 2, &[], &[1])?;
+    bad(to, "an empty required set, holder", 2, &[1, 0], &[])?;
+    bad(to, "a required set of one, holder", 2, &[3, 2, 1], &[])?;
+    bad(to, "clash, holder", 2, &[3], &[3])
 }
 
 // Secrets and randomness of other lengths: P1's three sets want a coefficient each for each word.
 fn words(to: &mut impl Write) -> io::Result<()> {
-    let none = [0u16; 0];
-    let one = [1u16];
-    let two = [1u16, 2];
-    let three = [1u16, 2, 3];
-    let four = [1u16, 2, 3, 4];
-    let large = [1u16, 32749];
-    let seventeen = [1u16; 17];
-    let plenty = [1u16; 51];
-    lengths(to, b"no secret, holder", &none, &none)?;
-    lengths(to, b"17 words, holder", &seventeen, &plenty)?;
-    lengths(to, b"second word 32749, holder", &large, &none)?;
-    lengths(to, b"no randomness, holder", &one, &none)?;
-    lengths(to, b"two coefficients for three, holder", &one, &two)?;
-    lengths(to, b"four coefficients for three, holder", &one, &four)?;
-    lengths(to, b"three coefficients for six, holder", &two, &three)
+    lengths(to, "no secret, holder", &[], &[])?;
+    lengths(to, "17 words, holder", &[1; 17], &[1; 51])?;
+    lengths(to, "second word 32749, holder", &[1, 32749], &[])?;
+    lengths(to, "no randomness, holder", &[1], &[])?;
+    lengths(to, "two coefficients for three, holder", &[1], &[1, 2])?;
+    lengths(
+        to,
+        "four coefficients for three, holder",
+        &[1],
+        &[1, 2, 3, 4],
+    )?;
+    lengths(
+        to,
+        "three coefficients for six, holder",
+        &[1, 2],
+        &[1, 2, 3],
+    )
 }
 
 pub fn refusals(to: &mut impl Write) -> io::Result<()> {
-    one(to, b"deal 0, holder", 0, 0, 1, 1234, 9, 512)?;
+    one(to, "deal 0, holder", 0, 0, 1, 1234, 9, 512)?;
     one(
         to,
-        b"deal 32748, year 32748, holder",
+        "deal 32748, year 32748, holder",
         32748,
         32748,
         1,
@@ -109,14 +120,14 @@ pub fn refusals(to: &mut impl Write) -> io::Result<()> {
         9,
         512,
     )?;
-    one(to, b"deal 32749, holder", 32749, 0, 1, 1234, 9, 512)?;
-    one(to, b"year 32749, holder", 7, 32749, 1, 1234, 9, 512)?;
-    one(to, b"holder", 7, 0, 0, 1234, 9, 512)?;
-    one(to, b"holder", 7, 0, 5, 1234, 9, 512)?;
-    one(to, b"secret 32749, holder", 7, 0, 1, 32749, 9, 512)?;
+    one(to, "deal 32749, holder", 32749, 0, 1, 1234, 9, 512)?;
+    one(to, "year 32749, holder", 7, 32749, 1, 1234, 9, 512)?;
+    one(to, "holder", 7, 0, 0, 1234, 9, 512)?;
+    one(to, "holder", 7, 0, 5, 1234, 9, 512)?;
+    one(to, "secret 32749, holder", 7, 0, 1, 32749, 9, 512)?;
     one(
         to,
-        b"third coefficient 32749, holder",
+        "third coefficient 32749, holder",
         7,
         0,
         1,
@@ -124,12 +135,12 @@ pub fn refusals(to: &mut impl Write) -> io::Result<()> {
         32749,
         512,
     )?;
-    one(to, b"511 bytes, holder", 7, 0, 1, 1234, 9, 511)?;
-    one(to, b"1023 bytes, holder", 7, 0, 2, 1234, 9, 1023)?;
-    one(to, b"all wrong, holder", 0, 32749, 5, 32749, 32749, 0)?;
+    one(to, "511 bytes, holder", 7, 0, 1, 1234, 9, 511)?;
+    one(to, "1023 bytes, holder", 7, 0, 2, 1234, 9, 1023)?;
+    one(to, "all wrong, holder", 0, 32749, 5, 32749, 32749, 0)?;
     one(
         to,
-        b"all wrong but the deal, holder",
+        "all wrong but the deal, holder",
         7,
         32749,
         5,
@@ -139,7 +150,7 @@ pub fn refusals(to: &mut impl Write) -> io::Result<()> {
     )?;
     one(
         to,
-        b"all wrong from the holder on, holder",
+        "all wrong from the holder on, holder",
         7,
         0,
         5,
@@ -149,7 +160,7 @@ pub fn refusals(to: &mut impl Write) -> io::Result<()> {
     )?;
     one(
         to,
-        b"all wrong from the secret on, holder",
+        "all wrong from the secret on, holder",
         7,
         0,
         1,
@@ -159,7 +170,7 @@ pub fn refusals(to: &mut impl Write) -> io::Result<()> {
     )?;
     one(
         to,
-        b"randomness and room wrong, holder",
+        "randomness and room wrong, holder",
         7,
         0,
         1,

@@ -4,310 +4,249 @@
 
 mod show;
 
-use desk::Clients;
+use dealing::Deal;
+use desk::Desk;
+use planning::Policy;
 use std::io;
 use std::io::Write;
 
 // The client opens for a deal of this number, of four people and one word.
 fn opens(
     to: &mut impl Write,
-    name: &[u8],
-    both: Clients,
+    name: &str,
+    d: &mut Desk,
     client: usize,
     deal: usize,
     pieces: usize,
-) -> io::Result<Clients> {
-    let s = desk::opened(both, client, deal, 4, pieces, 1, 0);
-    let x = s.answer;
-    show::line(to, name, x)?;
-    Ok(s.clients)
+) -> io::Result<()> {
+    show::line(to, name, desk::open(d, client, deal, 4, pieces, 1, 0))
 }
 
 fn hands(
     to: &mut impl Write,
-    name: &[u8],
-    slots: &mut [u16; 1190],
-    both: Clients,
+    name: &str,
+    d: &mut Desk,
     client: usize,
-    block: &[u8; 512],
+    block: &[u8],
 ) -> io::Result<()> {
-    show::line(to, name, desk::handed(slots, both, client, block))
-}
-
-// The first n bytes of what is lent.
-fn hands_front(
-    to: &mut impl Write,
-    name: &[u8],
-    slots: &mut [u16; 1190],
-    both: Clients,
-    client: usize,
-    bytes: &[u8],
-    n: usize,
-) -> io::Result<()> {
-    if n <= bytes.len() {
-        show::line(to, name, desk::handed(slots, both, client, &bytes[0..n]))?;
-    }
-    Ok(())
+    show::line(to, name, desk::hand_in(d, client, block))
 }
 
 // The first block of a card of two.
 fn hands_first(
     to: &mut impl Write,
-    name: &[u8],
-    slots: &mut [u16; 1190],
-    both: Clients,
+    name: &str,
+    d: &mut Desk,
     client: usize,
     card: &[u8; 1024],
 ) -> io::Result<()> {
-    hands_front(to, name, slots, both, client, card, 512)
-}
-
-// The first n bytes of a block.
-fn hands_part(
-    to: &mut impl Write,
-    name: &[u8],
-    slots: &mut [u16; 1190],
-    both: Clients,
-    client: usize,
-    block: &[u8; 512],
-    n: usize,
-) -> io::Result<()> {
-    hands_front(to, name, slots, both, client, block, n)
-}
-
-// One byte more than a block has.
-fn hands_longer(
-    to: &mut impl Write,
-    name: &[u8],
-    slots: &mut [u16; 1190],
-    both: Clients,
-    client: usize,
-) -> io::Result<()> {
-    let bytes = [0u8; 513];
-    show::line(to, name, desk::handed(slots, both, client, &bytes))
+    hands(to, name, d, client, &card[..512])
 }
 
 fn asks(
     to: &mut impl Write,
-    name: &[u8],
-    slots: &[u16; 1190],
-    both: Clients,
+    name: &str,
+    d: &Desk,
     client: usize,
     out: &mut [u16; 2],
 ) -> io::Result<()> {
-    show::say(to, name, desk::asked(slots, both, client, out))?;
+    show::say(to, name, desk::ask(d, client, out))?;
     to.write_all(b", lent")?;
     show::show_words(to, out)?;
     to.write_all(b"\n")
 }
 
 // With no word lent.
-fn asks_for_none(
-    to: &mut impl Write,
-    name: &[u8],
-    slots: &[u16; 1190],
-    both: Clients,
-    client: usize,
-) -> io::Result<()> {
+fn asks_for_none(to: &mut impl Write, name: &str, d: &Desk, client: usize) -> io::Result<()> {
     let mut none = [0u16; 0];
-    show::line(to, name, desk::asked(slots, both, client, &mut none))
+    show::line(to, name, desk::ask(d, client, &mut none))
 }
 
-fn closes(
-    to: &mut impl Write,
-    name: &[u8],
-    slots: &mut [u16; 1190],
-    both: Clients,
-    client: usize,
-) -> io::Result<Clients> {
-    let after = desk::forgotten(both, client);
-    show::line(to, name, desk::closed(slots, both, client))?;
-    Ok(after)
+fn closes(to: &mut impl Write, name: &str, d: &mut Desk, client: usize) -> io::Result<()> {
+    show::line(to, name, desk::close(d, client))
 }
 
-// A holder's card of the deal under this number and year, with this secret.
-fn card(deal: usize, year: usize, secret: u16, holder: usize, out: &mut [u8]) {
-    let none = [0u16; 0];
-    let required = [3u16, 6, 12];
-    let words = [secret];
+// The policy of the deal.
+const POLICY: Policy = Policy {
+    people: 4,
+    required: &[3, 6, 12],
+    forbidden: &[],
+};
+
+// A holder's card of the deal under this number and year, with this secret. Were it refused, the walk would print other lines.
+fn card(number: usize, year: usize, secret: u16, holder: usize, out: &mut [u8]) {
+    let secret = [secret];
     let random = [5u16, 7];
-    dealing::deal(
-        4, &required, &none, deal, year, holder, &words, &random, out,
-    );
+    let deal = Deal {
+        policy: POLICY,
+        number,
+        year,
+        secret: &secret,
+        random: &random,
+    };
+    let _ = dealing::deal(deal, holder, out);
 }
 
 // Client 1 opens and hands in two of its pieces, one of them twice; between them client 2 asks for more slots than are left, and then for all of them.
-fn two_open(to: &mut impl Write, slots: &mut [u16; 1190], both: Clients) -> io::Result<Clients> {
+fn two_open(to: &mut impl Write, d: &mut Desk) -> io::Result<()> {
     let mut one = [0u8; 512];
     let mut two = [0u8; 1024];
     card(7, 0, 1234, 4, &mut one);
     card(7, 0, 1234, 3, &mut two);
-    let first = opens(to, b"client 1 opens, 3 pieces:", both, 1, 7, 3)?;
-    hands(to, b"holder 4's block:", slots, first, 1, &one)?;
-    hands(to, b"the same again:", slots, first, 1, &one)?;
-    let full = opens(to, b"client 2 opens, 68 pieces:", first, 2, 9, 68)?;
-    let second = opens(to, b"client 2 opens, 67 pieces:", full, 2, 9, 67)?;
-    hands_first(to, b"holder 3's first block:", slots, second, 1, &two)?;
-    Ok(second)
+    opens(to, "client 1 opens, 3 pieces:", d, 1, 7, 3)?;
+    hands(to, "holder 4's block:", d, 1, &one)?;
+    hands(to, "the same again:", d, 1, &one)?;
+    opens(to, "client 2 opens, 68 pieces:", d, 2, 9, 68)?;
+    opens(to, "client 2 opens, 67 pieces:", d, 2, 9, 67)?;
+    hands_first(to, "holder 3's first block:", d, 1, &two)
 }
 
 // Client 1 asks with two pieces, and with three.
-fn ask_all(to: &mut impl Write, slots: &mut [u16; 1190], both: Clients) -> io::Result<()> {
+fn ask_all(to: &mut impl Write, d: &mut Desk) -> io::Result<()> {
     let mut three = [0u8; 512];
     card(7, 0, 1234, 1, &mut three);
     let mut words = [9u16, 9];
-    asks(to, b"client 1 asks:", slots, both, 1, &mut words)?;
-    hands(to, b"holder 1's block:", slots, both, 1, &three)?;
-    asks(to, b"client 1 asks:", slots, both, 1, &mut words)?;
+    asks(to, "client 1 asks:", d, 1, &mut words)?;
+    hands(to, "holder 1's block:", d, 1, &three)?;
+    asks(to, "client 1 asks:", d, 1, &mut words)?;
     let mut again = [9u16, 9];
-    asks(to, b"and again:", slots, both, 1, &mut again)?;
-    asks_for_none(to, b"with no room:", slots, both, 1)?;
-    asks_for_none(to, b"client 2 asks:", slots, both, 2)?;
-    hands(to, b"client 2, holder 1's block:", slots, both, 2, &three)
+    asks(to, "and again:", d, 1, &mut again)?;
+    asks_for_none(to, "with no room:", d, 1)?;
+    asks_for_none(to, "client 2 asks:", d, 2)?;
+    hands(to, "client 2, holder 1's block:", d, 2, &three)
 }
 
 // Client 1 closes, and opens once more; then both close.
-fn close_both(to: &mut impl Write, slots: &mut [u16; 1190], both: Clients) -> io::Result<()> {
-    let gone = closes(to, b"client 1 closes:", slots, both, 1)?;
-    let still = closes(to, b"and again:", slots, gone, 1)?;
-    let full = opens(to, b"client 1 opens, 4 pieces:", still, 1, 7, 4)?;
-    let back = opens(to, b"client 1 opens, 3 pieces:", full, 1, 7, 3)?;
-    let busy = opens(to, b"and again:", back, 1, 7, 0)?;
+fn close_both(to: &mut impl Write, d: &mut Desk) -> io::Result<()> {
+    closes(to, "client 1 closes:", d, 1)?;
+    closes(to, "and again:", d, 1)?;
+    opens(to, "client 1 opens, 4 pieces:", d, 1, 7, 4)?;
+    opens(to, "client 1 opens, 3 pieces:", d, 1, 7, 3)?;
+    opens(to, "and again:", d, 1, 7, 0)?;
     let mut words = [9u16, 9];
-    asks(to, b"client 1 asks:", slots, busy, 1, &mut words)?;
-    let last = closes(to, b"client 2 closes:", slots, busy, 2)?;
-    closes(to, b"client 1 closes:", slots, last, 1)?;
-    Ok(())
+    asks(to, "client 1 asks:", d, 1, &mut words)?;
+    closes(to, "client 2 closes:", d, 2)?;
+    closes(to, "client 1 closes:", d, 1)
 }
 
 // From a fresh desk to one at which both have closed.
 fn walk(to: &mut impl Write) -> io::Result<()> {
-    let d = desk::fresh();
-    let mut slots = d.slots;
-    let fresh = d.clients;
-    let both = two_open(to, &mut slots, fresh)?;
-    ask_all(to, &mut slots, both)?;
-    close_both(to, &mut slots, both)?;
-    show::left(to, &slots)
+    let mut d = desk::fresh();
+    two_open(to, &mut d)?;
+    ask_all(to, &mut d)?;
+    close_both(to, &mut d)?;
+    show::left(to, &d.slots)
 }
 
 // Every call of a client that there is not.
 fn stranger(to: &mut impl Write, client: usize) -> io::Result<()> {
-    let d = desk::fresh();
-    let mut slots = d.slots;
-    let both = d.clients;
+    let mut d = desk::fresh();
     let mut words = [9u16, 9];
     let block = [0u8; 512];
-    to.write_all(b"client")?;
-    show::number(to, client)?;
-    to.write_all(b"\n")?;
-    opens(to, b"opens:", both, client, 7, 3)?;
-    hands(to, b"hands in:", &mut slots, both, client, &block)?;
-    asks(to, b"asks:", &slots, both, client, &mut words)?;
-    closes(to, b"closes:", &mut slots, both, client)?;
-    Ok(())
+    writeln!(to, "client {client}")?;
+    opens(to, "opens:", &mut d, client, 7, 3)?;
+    hands(to, "hands in:", &mut d, client, &block)?;
+    asks(to, "asks:", &d, client, &mut words)?;
+    closes(to, "closes:", &mut d, client)
 }
 
 // One opening at a fresh desk.
 fn opening(
     to: &mut impl Write,
-    name: &[u8],
+    name: &str,
     deal: usize,
     people: usize,
     pieces: usize,
     width: usize,
     year: usize,
 ) -> io::Result<()> {
-    let d = desk::fresh();
-    let both = d.clients;
-    let s = desk::opened(both, 1, deal, people, pieces, width, year);
-    let x = s.answer;
-    show::line(to, name, x)
+    let mut d = desk::fresh();
+    show::line(
+        to,
+        name,
+        desk::open(&mut d, 1, deal, people, pieces, width, year),
+    )
 }
 
 // Each word at both ends of its range, and past them.
 fn words(to: &mut impl Write) -> io::Result<()> {
-    opening(to, b"deal 0:", 0, 4, 3, 1, 0)?;
-    opening(to, b"deal 32748:", 32748, 4, 3, 1, 0)?;
-    opening(to, b"deal 32749:", 32749, 4, 3, 1, 0)?;
-    opening(to, b"people 0:", 7, 0, 3, 1, 0)?;
-    opening(to, b"people 8:", 7, 8, 3, 1, 0)?;
-    opening(to, b"people 9:", 7, 9, 3, 1, 0)?;
-    opening(to, b"pieces 0:", 7, 4, 0, 1, 0)?;
-    opening(to, b"pieces 70:", 7, 4, 70, 1, 0)?;
-    opening(to, b"pieces 71:", 7, 4, 71, 1, 0)?;
-    opening(to, b"pieces 65541:", 7, 4, 65541, 1, 0)?;
-    opening(to, b"words 0:", 7, 4, 3, 0, 0)?;
-    opening(to, b"words 16:", 7, 4, 3, 16, 0)?;
-    opening(to, b"words 17:", 7, 4, 3, 17, 0)?;
-    opening(to, b"year 32748:", 7, 4, 3, 1, 32748)?;
-    opening(to, b"year 32749:", 7, 4, 3, 1, 32749)
+    opening(to, "deal 0:", 0, 4, 3, 1, 0)?;
+    opening(to, "deal 32748:", 32748, 4, 3, 1, 0)?;
+    opening(to, "deal 32749:", 32749, 4, 3, 1, 0)?;
+    opening(to, "people 0:", 7, 0, 3, 1, 0)?;
+    opening(to, "people 8:", 7, 8, 3, 1, 0)?;
+    opening(to, "people 9:", 7, 9, 3, 1, 0)?;
+    opening(to, "pieces 0:", 7, 4, 0, 1, 0)?;
+    opening(to, "pieces 70:", 7, 4, 70, 1, 0)?;
+    opening(to, "pieces 71:", 7, 4, 71, 1, 0)?;
+    opening(to, "pieces 65541:", 7, 4, 65541, 1, 0)?;
+    opening(to, "words 0:", 7, 4, 3, 0, 0)?;
+    opening(to, "words 16:", 7, 4, 3, 16, 0)?;
+    opening(to, "words 17:", 7, 4, 3, 17, 0)?;
+    opening(to, "year 32748:", 7, 4, 3, 1, 32748)?;
+    opening(to, "year 32749:", 7, 4, 3, 1, 32749)
 }
 
 // Bytes that are no true block of 512.
-fn no_blocks(to: &mut impl Write, slots: &mut [u16; 1190], both: Clients) -> io::Result<()> {
+fn no_blocks(to: &mut impl Write, d: &mut Desk) -> io::Result<()> {
     let mut block = [0u8; 512];
-    hands_part(to, b"no bytes:", slots, both, 1, &block, 0)?;
-    hands_part(to, b"511 bytes:", slots, both, 1, &block, 511)?;
-    hands_longer(to, b"513 bytes:", slots, both, 1)?;
-    hands(to, b"zeros:", slots, both, 1, &block)?;
+    hands(to, "no bytes:", d, 1, &block[..0])?;
+    hands(to, "511 bytes:", d, 1, &block[..511])?;
+    hands(to, "513 bytes:", d, 1, &[0u8; 513])?;
+    hands(to, "zeros:", d, 1, &block)?;
     card(7, 0, 1234, 4, &mut block);
     block[15] = 0;
-    hands(to, b"a value changed:", slots, both, 1, &block)?;
+    hands(to, "a value changed:", d, 1, &block)?;
     block[14] = 255;
-    hands(to, b"a value above 32748:", slots, both, 1, &block)
+    hands(to, "a value above 32748:", d, 1, &block)
 }
 
 // A true block, but of a deal by sets, and under the check that it had before: the first of its words that a desk does not take is the mark.
-fn set_blocks(to: &mut impl Write, slots: &mut [u16; 1190], both: Clients) -> io::Result<()> {
+fn set_blocks(to: &mut impl Write, d: &mut Desk) -> io::Result<()> {
     let mut block = [0u8; 512];
     card(7, 0, 1234, 4, &mut block);
     block[1] = 196;
     block[49] = 1;
-    hands(to, b"mark and set changed:", slots, both, 1, &block)?;
+    hands(to, "mark and set changed:", d, 1, &block)?;
     block[510] = 47;
     block[511] = 19;
-    hands(to, b"of a deal by sets:", slots, both, 1, &block)
+    hands(to, "of a deal by sets:", d, 1, &block)
 }
 
 // True blocks that are of another deal or year, or that say otherwise than one that was taken.
-fn other_blocks(to: &mut impl Write, slots: &mut [u16; 1190], both: Clients) -> io::Result<()> {
+fn other_blocks(to: &mut impl Write, d: &mut Desk) -> io::Result<()> {
     let mut block = [0u8; 512];
     card(8, 0, 1234, 4, &mut block);
-    hands(to, b"another deal:", slots, both, 1, &block)?;
+    hands(to, "another deal:", d, 1, &block)?;
     card(7, 2026, 1234, 4, &mut block);
-    hands(to, b"another year:", slots, both, 1, &block)?;
+    hands(to, "another year:", d, 1, &block)?;
     card(7, 0, 1234, 4, &mut block);
-    hands(to, b"the deal's own:", slots, both, 1, &block)?;
+    hands(to, "the deal's own:", d, 1, &block)?;
     card(7, 0, 1235, 4, &mut block);
-    hands(to, b"other values:", slots, both, 1, &block)
+    hands(to, "other values:", d, 1, &block)
 }
 
 // Blocks that are not taken.
 fn blocks(to: &mut impl Write) -> io::Result<()> {
-    let d = desk::fresh();
-    let mut slots = d.slots;
-    let shut = d.clients;
+    let mut d = desk::fresh();
     let block = [0u8; 512];
-    hands(to, b"before opening:", &mut slots, shut, 1, &block)?;
-    let both = opens(to, b"client 1 opens:", shut, 1, 7, 3)?;
-    no_blocks(to, &mut slots, both)?;
-    set_blocks(to, &mut slots, both)?;
-    other_blocks(to, &mut slots, both)?;
-    closes(to, b"client 1 closes:", &mut slots, both, 1)?;
-    Ok(())
+    hands(to, "before opening:", &mut d, 1, &block)?;
+    opens(to, "client 1 opens:", &mut d, 1, 7, 3)?;
+    no_blocks(to, &mut d)?;
+    set_blocks(to, &mut d)?;
+    other_blocks(to, &mut d)?;
+    closes(to, "client 1 closes:", &mut d, 1)
 }
 
 // A store in which every number is 65535: nothing of it is kept, and nothing of it gets into a sum.
 fn spoilt(to: &mut impl Write) -> io::Result<()> {
-    let d = desk::fresh();
-    let mut slots = [65535u16; 1190];
-    let mut both = d.clients;
+    let mut d = desk::fresh();
+    d.slots = [65535u16; 1190];
     let mut words = [9u16, 9];
-    both = opens(to, b"client 2 opens, 2 pieces:", both, 2, 7, 2)?;
-    asks(to, b"client 2 asks:", &slots, both, 2, &mut words)?;
-    closes(to, b"client 2 closes:", &mut slots, both, 2)?;
-    show::left(to, &slots)
+    opens(to, "client 2 opens, 2 pieces:", &mut d, 2, 7, 2)?;
+    asks(to, "client 2 asks:", &d, 2, &mut words)?;
+    closes(to, "client 2 closes:", &mut d, 2)?;
+    show::left(to, &d.slots)
 }
 
 fn main(rt: HostRuntime) -> io::Result<()> {

@@ -1,5 +1,6 @@
 // Holding lists, and the policies for which they are judged.
-use crate::show::show;
+use crate::show::{refused, show};
+use planning::{Policy, Rows};
 use std::io;
 use std::io::Write;
 
@@ -83,11 +84,10 @@ fn fives() -> [u16; 56] {
 }
 
 // The marks of a plan of 70 pieces for eight people, but for one at index `out`: a person holds the pieces whose rows have no mark there.
-fn own_marks(rows: [[bool; 8]; 70], out: usize) -> [u8; 560] {
+fn own_marks(rows: &Rows, out: usize) -> [u8; 560] {
     let mut marks = [0u8; 560];
     for at in 0..560 {
-        let row = rows[at % 70];
-        if at != out && !row[at / 70] {
+        if at != out && !rows[at % 70][at / 70] {
             marks[at] = 1;
         }
     }
@@ -127,13 +127,19 @@ pub fn one_each(to: &mut impl Write) -> io::Result<()> {
 // The same with our own holdings, and with a mark left out.
 pub fn our_own(to: &mut impl Write) -> io::Result<()> {
     let sets = fives();
-    let none = [0u16; 0];
-    let plan = planning::plan(8, &sets, &none);
-    let rows = planning::rows_of(plan);
-    let own = own_marks(rows, 560);
+    let policy = Policy {
+        people: 8,
+        required: &sets,
+        forbidden: &[],
+    };
+    let plan = match planning::plan(policy) {
+        Ok(plan) => plan,
+        Err(r) => return refused(to, r),
+    };
+    let own = own_marks(&plan.rows, 560);
     show(to, b"our own 70 pieces", 8, &sets, 8, 70, 70, &own)?;
     show(to, b"69 of them needed", 8, &sets, 8, 70, 69, &own)?;
-    let less = own_marks(rows, 490);
+    let less = own_marks(&plan.rows, 490);
     show(
         to,
         b"without holder 8's piece 1",

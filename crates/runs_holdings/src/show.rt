@@ -1,5 +1,7 @@
 // The answer to one list, under its name.
-use holdings::Judged;
+use answer::Refusal;
+use holdings::{Holdings, Verdict};
+use planning::Policy;
 use std::io;
 use std::io::Write;
 
@@ -7,26 +9,29 @@ fn number(to: &mut impl Write, x: usize) -> io::Result<()> {
     write!(to, " {x}")
 }
 
-fn judged(to: &mut impl Write, x: Judged) -> io::Result<()> {
+// A refusal, its number and its two places.
+pub fn refused(to: &mut impl Write, r: Refusal) -> io::Result<()> {
+    to.write_all(b": refused")?;
+    number(to, usize::from(r.kind))?;
+    number(to, r.a)?;
+    number(to, r.b)?;
+    to.write_all(b"\n")
+}
+
+fn judged(to: &mut impl Write, x: Result<Verdict, Refusal>) -> io::Result<()> {
     match x {
-        Judged::Suits => {
+        Ok(Verdict::Suits) => {
             to.write_all(b": suits")?;
         }
-        Judged::Few(g) => {
+        Ok(Verdict::Few(g)) => {
             to.write_all(b": few")?;
             number(to, g)?;
         }
-        Judged::Many(g) => {
+        Ok(Verdict::Many(g)) => {
             to.write_all(b": many")?;
             number(to, g)?;
         }
-        Judged::Refused(r) => {
-            to.write_all(b": refused")?;
-            let kind = r.kind;
-            number(to, answer::number_of(kind))?;
-            number(to, r.a)?;
-            number(to, r.b)?;
-        }
+        Err(r) => return refused(to, r),
     }
     to.write_all(b"\n")
 }
@@ -43,9 +48,16 @@ pub fn show(
     marks: &[u8],
 ) -> io::Result<()> {
     to.write_all(name)?;
-    let none = [0u16; 0];
-    judged(
-        to,
-        holdings::judge(people, required, &none, list_people, pieces, needed, marks),
-    )
+    let policy = Policy {
+        people,
+        required,
+        forbidden: &[],
+    };
+    let list = Holdings {
+        people: list_people,
+        pieces,
+        needed,
+        marks,
+    };
+    judged(to, holdings::judge(policy, list))
 }

@@ -1,6 +1,8 @@
 // Piles of blocks by sets, made word by word: a deal of number 7 to four people, of one word, 1234. Its sets are 1 and 2, 2 and 3, 3 and 4, of two
 // pieces each.
-use crate::front;
+ghost use Rattle.std.specs.Prelude.{◌≤◌, length};
+
+use crate::{Joiner, front};
 use std::io;
 use std::io::Write;
 
@@ -30,38 +32,28 @@ fn made(mark: u16, holder: u16, pieces: u16, piece: u16, value: u16, set: u16, c
 
 // Word i of the block that comes after the first a.
 fn put(pile: &mut [u8], a: usize, i: usize, v: u16) {
-    if a < 8 {
-        if i < 257 {
-            let at = 256 * a + i;
-            if 0 < at {
-                if at <= pile.len() / 2 {
-                    block::put_word(pile, at, v);
-                }
-            }
-        }
+    if a < 8 && 0 < i && i < 257 && 256 * a + i <= pile.len() / 2 {
+        block::put_word(pile, 256 * a + i, v);
     }
 }
 
-// Words 1 to 5 of a block, and the others.
-fn put_front(pile: &mut [u8], a: usize, b: Held) {
-    put(pile, a, 1, b.mark);
-    put(pile, a, 2, 7);
-    put(pile, a, 3, b.holder);
-    put(pile, a, 4, 4);
-    put(pile, a, 5, b.pieces);
-}
-
-fn put_rest(pile: &mut [u8], a: usize, b: Held) {
-    put(pile, a, 6, 1);
-    put(pile, a, 7, b.piece);
-    put(pile, a, 8, b.value);
-    put(pile, a, 25, b.set);
-    put(pile, a, 256, b.check);
-}
-
+// The block that comes after the first a.
 fn put_block(pile: &mut [u8], a: usize, b: Held) {
-    put_front(pile, a, b);
-    put_rest(pile, a, b);
+    let words = [
+        (1, b.mark),
+        (2, 7),
+        (3, b.holder),
+        (4, 4),
+        (5, b.pieces),
+        (6, 1),
+        (7, b.piece),
+        (8, b.value),
+        (25, b.set),
+        (256, b.check),
+    ];
+    for (i, v) in words {
+        put(pile, a, i, v);
+    }
 }
 
 // The blocks of the cases, by number: piece j of set s of the deal is 10 s + j.
@@ -104,145 +96,59 @@ fn odd(n: usize) -> Held {
     }
 }
 
-// The block of that number after the first a of the pile.
-fn lay(pile: &mut [u8], a: usize, n: usize) {
-    let b = numbered(n);
-    put_block(pile, a, b);
-}
-
-// The pile of that many bytes: the blocks of these four numbers, or of as many as lie in it.
-fn pile(
-    to: &mut impl Write,
-    joiner: usize,
-    name: &[u8],
-    bytes: usize,
-    x: usize,
-    y: usize,
-    z: usize,
-    u: usize,
-) -> io::Result<()> {
+// The pile of the blocks of these numbers, four at most.
+fn pile(to: &mut impl Write, joiner: Joiner, name: &[u8], numbers: &[usize]) -> io::Result<()>
+    requires { length numbers.now ≤ 4 }
+{
     let mut cards = [0u8; 2048];
-    lay(&mut cards, 0, x);
-    lay(&mut cards, 1, y);
-    lay(&mut cards, 2, z);
-    lay(&mut cards, 3, u);
+    for (a, &number) in numbers.iter().enumerate() {
+        put_block(&mut cards, a, numbered(number));
+    }
     let mut words = [9u16; 2];
-    front(to, joiner, name, &cards, bytes, &mut words)
+    front(to, joiner, name, &cards, 512 * numbers.len(), &mut words)
 }
 
 // Whole cards of two people.
-fn groups(to: &mut impl Write, joiner: usize) -> io::Result<()> {
-    pile(to, joiner, b"1 and 2:", 1536, 11, 12, 21, 0)?;
-    pile(to, joiner, b"2 and 1:", 1536, 12, 21, 11, 0)?;
-    pile(to, joiner, b"1 and 3:", 1536, 11, 22, 31, 0)?;
-    pile(to, joiner, b"1 and 4:", 1024, 11, 32, 0, 0)?;
-    pile(to, joiner, b"2 and 3:", 2048, 12, 21, 22, 31)?;
-    pile(to, joiner, b"2 and 4:", 1536, 12, 21, 32, 0)?;
-    pile(to, joiner, b"3 and 4:", 1536, 22, 31, 32, 0)
+fn groups(to: &mut impl Write, joiner: Joiner) -> io::Result<()> {
+    pile(to, joiner, b"1 and 2:", &[11, 12, 21])?;
+    pile(to, joiner, b"2 and 1:", &[12, 21, 11])?;
+    pile(to, joiner, b"1 and 3:", &[11, 22, 31])?;
+    pile(to, joiner, b"1 and 4:", &[11, 32])?;
+    pile(to, joiner, b"2 and 3:", &[12, 21, 22, 31])?;
+    pile(to, joiner, b"2 and 4:", &[12, 21, 32])?;
+    pile(to, joiner, b"3 and 4:", &[22, 31, 32])
 }
 
 // The smallest set, the highest one, and of two complete sets, one of them altered, the lower.
-fn lowest(to: &mut impl Write, joiner: usize) -> io::Result<()> {
-    pile(to, joiner, b"a set of one piece:", 512, 101, 0, 0, 0)?;
-    pile(to, joiner, b"set 70:", 1024, 702, 701, 0, 0)?;
-    pile(
-        to,
-        joiner,
-        b"sets 3 and 1, 3 altered:",
-        2048,
-        311,
-        32,
-        11,
-        12,
-    )?;
-    pile(
-        to,
-        joiner,
-        b"sets 3 and 1, 1 altered:",
-        2048,
-        31,
-        32,
-        111,
-        12,
-    )
+fn lowest(to: &mut impl Write, joiner: Joiner) -> io::Result<()> {
+    pile(to, joiner, b"a set of one piece:", &[101])?;
+    pile(to, joiner, b"set 70:", &[702, 701])?;
+    pile(to, joiner, b"sets 3 and 1, 3 altered:", &[311, 32, 11, 12])?;
+    pile(to, joiner, b"sets 3 and 1, 1 altered:", &[31, 32, 111, 12])
 }
 
 // Blocks that contradict each other.
-fn conflicts(to: &mut impl Write, joiner: usize) -> io::Result<()> {
-    pile(
-        to,
-        joiner,
-        b"a piece with other values:",
-        1024,
-        11,
-        111,
-        0,
-        0,
-    )?;
-    pile(
-        to,
-        joiner,
-        b"a piece with another count:",
-        1024,
-        11,
-        112,
-        0,
-        0,
-    )?;
-    pile(
-        to,
-        joiner,
-        b"a set with another count:",
-        1024,
-        12,
-        112,
-        0,
-        0,
-    )?;
-    pile(to, joiner, b"other values, third:", 1536, 12, 11, 111, 0)?;
-    pile(to, joiner, b"both, third:", 1536, 12, 11, 113, 0)?;
-    pile(to, joiner, b"one number in two sets:", 1024, 11, 21, 0, 0)
+fn conflicts(to: &mut impl Write, joiner: Joiner) -> io::Result<()> {
+    pile(to, joiner, b"a piece with other values:", &[11, 111])?;
+    pile(to, joiner, b"a piece with another count:", &[11, 112])?;
+    pile(to, joiner, b"a set with another count:", &[12, 112])?;
+    pile(to, joiner, b"other values, third:", &[12, 11, 111])?;
+    pile(to, joiner, b"both, third:", &[12, 11, 113])?;
+    pile(to, joiner, b"one number in two sets:", &[11, 21])
 }
 
 // Blocks of both schemes, and headers that neither has.
-fn marks(to: &mut impl Write, joiner: usize) -> io::Result<()> {
-    pile(
-        to,
-        joiner,
-        b"a block without sets on top:",
-        1536,
-        1,
-        11,
-        12,
-        0,
-    )?;
-    pile(
-        to,
-        joiner,
-        b"a block by sets at the end:",
-        1536,
-        1,
-        2,
-        11,
-        0,
-    )?;
-    pile(to, joiner, b"without sets:", 1024, 1, 2, 0, 0)?;
-    pile(to, joiner, b"set 0:", 512, 900, 0, 0, 0)?;
-    pile(to, joiner, b"set 71:", 512, 971, 0, 0, 0)?;
-    pile(
-        to,
-        joiner,
-        b"five pieces of four people:",
-        512,
-        905,
-        0,
-        0,
-        0,
-    )?;
-    pile(to, joiner, b"set 1 without sets:", 512, 901, 0, 0, 0)
+fn marks(to: &mut impl Write, joiner: Joiner) -> io::Result<()> {
+    pile(to, joiner, b"a block without sets on top:", &[1, 11, 12])?;
+    pile(to, joiner, b"a block by sets at the end:", &[1, 2, 11])?;
+    pile(to, joiner, b"without sets:", &[1, 2])?;
+    pile(to, joiner, b"set 0:", &[900])?;
+    pile(to, joiner, b"set 71:", &[971])?;
+    pile(to, joiner, b"five pieces of four people:", &[905])?;
+    pile(to, joiner, b"set 1 without sets:", &[901])
 }
 
-pub fn by_sets(to: &mut impl Write, joiner: usize) -> io::Result<()> {
+pub fn by_sets(to: &mut impl Write, joiner: Joiner) -> io::Result<()> {
     groups(to, joiner)?;
     lowest(to, joiner)?;
     conflicts(to, joiner)?;

@@ -5,9 +5,10 @@
 
 mod most;
 
-ghost use Rattle.std.specs.Prelude.{◌≤◌, length};
+ghost use Rattle.std.specs.Prelude.{◌≤◌, ◌<◌, length};
 
-use answer::{Answer, Refusal};
+use answer::Refusal;
+use planning::{Plan, Policy, Rows};
 use std::io;
 use std::io::Write;
 
@@ -18,65 +19,51 @@ fn number(to: &mut impl Write, x: usize) -> io::Result<()> {
 // The people of a group, in braces.
 fn group(to: &mut impl Write, row: [bool; 8]) -> io::Result<()> {
     to.write_all(b" {")?;
-    for i in 0..8 {
-        if row[i] {
-            write!(to, "{}", i as u64 + 1)?;
+    for (i, &mark) in row.iter().enumerate() {
+        if mark {
+            write!(to, "{}", i + 1)?;
         }
     }
     to.write_all(b"}")
 }
 
-fn groups(to: &mut impl Write, k: usize, rows: [[bool; 8]; 70]) -> io::Result<()> {
-    for j in 0..70 {
-        if j < k {
-            group(to, rows[j])?;
-        }
+// The groups of the first k rows.
+fn groups(to: &mut impl Write, k: usize, rows: &Rows) -> io::Result<()> {
+    for &row in rows.iter().take(k) {
+        group(to, row)?;
     }
     Ok(())
 }
 
 // How many of the first k rows do not mark person i + 1.
-fn held(k: usize, i: usize, rows: [[bool; 8]; 70]) -> usize {
-    let mut count = 0;
-    if i < 8 {
-        for j in 0..70 {
-            let row = rows[j];
-            if j < k && !row[i] {
-                count += 1;
-            }
-        }
-    }
-    count
+fn held(k: usize, i: usize, rows: &Rows) -> usize
+    requires { i < 8 }
+{
+    rows.iter().take(k).filter(|row| !row[i]).count()
 }
 
 // How many pieces each person holds.
-fn everybody(
-    to: &mut impl Write,
-    people: usize,
-    k: usize,
-    rows: [[bool; 8]; 70],
-) -> io::Result<()> {
+fn everybody(to: &mut impl Write, people: usize, plan: &Plan) -> io::Result<()> {
     for i in 0..8 {
         if i < people {
-            number(to, held(k, i, rows))?;
+            number(to, held(plan.pieces, i, &plan.rows))?;
         }
     }
     Ok(())
 }
 
-fn accepted(to: &mut impl Write, people: usize, k: usize, rows: [[bool; 8]; 70]) -> io::Result<()> {
+fn accepted(to: &mut impl Write, people: usize, plan: &Plan) -> io::Result<()> {
     to.write_all(b" pieces")?;
-    number(to, k)?;
+    number(to, plan.pieces)?;
     to.write_all(b"\n missing")?;
-    groups(to, k, rows)?;
+    groups(to, plan.pieces, &plan.rows)?;
     to.write_all(b"\n held")?;
-    everybody(to, people, k, rows)
+    everybody(to, people, plan)
 }
 
 fn refused(to: &mut impl Write, r: Refusal) -> io::Result<()> {
     to.write_all(b" refused")?;
-    let kind = r.kind;
-    number(to, answer::number_of(kind))?;
+    number(to, usize::from(r.kind))?;
     number(to, r.a)?;
     number(to, r.b)
 }
@@ -91,11 +78,14 @@ fn show(
 ) -> io::Result<()> {
     to.write_all(name)?;
     to.write_all(b"\n")?;
-    let p = planning::plan(people, required, forbidden);
-    let rows = planning::rows_of(p);
-    match planning::answer_of(p) {
-        Answer::Done(k) => accepted(to, people, k, rows)?,
-        Answer::Refused(r) => refused(to, r)?,
+    let policy = Policy {
+        people,
+        required,
+        forbidden,
+    };
+    match planning::plan(policy) {
+        Ok(plan) => accepted(to, people, &plan)?,
+        Err(r) => refused(to, r)?,
     }
     to.write_all(b"\n")
 }
@@ -142,22 +132,12 @@ fn parse(text: &[u8]) -> Sets
 {
     let mut list = [0u16; 64];
     let mut last = 0;
-    let mut i = 0;
-    while i < text.len() {
-        last = after(last, text[i]);
-        list[last] = list[last] | person(text[i]);
-        i += 1;
+    for &c in text {
+        last = after(last, c);
+        list[last] |= person(c);
     }
-    if i == 0 {
-        return Sets {
-            list: list,
-            count: 0,
-        };
-    }
-    Sets {
-        list: list,
-        count: last + 1,
-    }
+    let count = if text.is_empty() { 0 } else { last + 1 };
+    Sets { list, count }
 }
 
 fn case(

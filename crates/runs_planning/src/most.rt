@@ -2,7 +2,7 @@
 ghost use Rattle.std.specs.Prelude.{◌≤◌};
 
 use crate::{everybody, number, refused};
-use answer::Answer;
+use planning::Policy;
 use std::io;
 use std::io::Write;
 
@@ -30,17 +30,19 @@ fn named(to: &mut impl Write, people: usize, members: u32) -> io::Result<()> {
 
 // How many pieces there are, and how many each person holds.
 fn pieces(to: &mut impl Write, people: usize, required: &[u16]) -> io::Result<()> {
-    let none = [0u16; 0];
-    let p = planning::plan(people, required, &none);
-    let rows = planning::rows_of(p);
-    match planning::answer_of(p) {
-        Answer::Done(k) => {
+    let policy = Policy {
+        people,
+        required,
+        forbidden: &[],
+    };
+    match planning::plan(policy) {
+        Ok(plan) => {
             to.write_all(b": pieces")?;
-            number(to, k)?;
+            number(to, plan.pieces)?;
             to.write_all(b" held")?;
-            everybody(to, people, k, rows)?;
+            everybody(to, people, &plan)?;
         }
-        Answer::Refused(r) => refused(to, r)?,
+        Err(r) => refused(to, r)?,
     }
     to.write_all(b"\n")
 }

@@ -3,7 +3,7 @@
 // left the reader stays. What it prints is compared with `stdout`.
 #![tactic(auto)]
 
-use answer::{Answer, Refusal};
+use answer::Refusal;
 use block::Words;
 use reader::Seen;
 use std::fs::File;
@@ -11,50 +11,33 @@ use std::io::Write;
 use std::rt::Files;
 use std::{env, io};
 
-fn number(to: &mut impl Write, n: usize) -> io::Result<()> {
-    write!(to, " {n}")
-}
-
-fn wide(v: u16) -> usize {
-    v as usize
-}
-
 fn head(to: &mut impl Write, h: Words) -> io::Result<()> {
     to.write_all(b" words")?;
-    number(to, h.mark as usize)?;
-    number(to, h.deal as usize)?;
-    number(to, h.holder as usize)?;
-    number(to, h.people as usize)?;
-    number(to, h.pieces as usize)?;
-    number(to, h.width as usize)?;
-    number(to, h.piece as usize)
-}
-
-fn refused(to: &mut impl Write, r: Refusal) -> io::Result<()> {
-    let kind = r.kind;
-    to.write_all(b" refused")?;
-    number(to, answer::number_of(kind))?;
-    number(to, r.a)?;
-    number(to, r.b)
-}
-
-fn answered(to: &mut impl Write, seen: Seen) -> io::Result<()> {
-    match seen {
-        Seen::Head(h) => head(to, h)?,
-        Seen::Refused(r) => refused(to, r)?,
-        Seen::Ended => {
-            to.write_all(b" ended")?;
-        }
+    for word in [
+        h.mark, h.deal, h.holder, h.people, h.pieces, h.width, h.piece,
+    ] {
+        write!(to, " {word}")?;
     }
     Ok(())
 }
 
+fn refused(to: &mut impl Write, r: Refusal) -> io::Result<()> {
+    let kind = usize::from(r.kind);
+    write!(to, " refused {kind} {} {}", r.a, r.b)
+}
+
+fn answered(to: &mut impl Write, seen: Seen) -> io::Result<()> {
+    match seen {
+        Some(Ok(words)) => head(to, words),
+        Some(Err(refusal)) => refused(to, refusal),
+        None => to.write_all(b" ended"),
+    }
+}
+
 // Value bytes, as words.
 fn values(to: &mut impl Write, b: &[u8]) -> io::Result<()> {
-    let mut i: usize = 0;
-    while i < b.len() / 2 {
-        i += 1;
-        number(to, wide(block::word(b, i)))?;
+    for i in 0..b.len() / 2 {
+        write!(to, " {}", block::word(b, i + 1))?;
     }
     Ok(())
 }
@@ -62,8 +45,7 @@ fn values(to: &mut impl Write, b: &[u8]) -> io::Result<()> {
 // Prints the answer after so many blocks, and gives how many are passed then.
 fn step(to: &mut impl Write, pile: &[u8], passed: usize) -> io::Result<usize> {
     let s = reader::read_at(pile, passed);
-    let seen = s.seen;
-    answered(to, seen)?;
+    answered(to, s.seen)?;
     to.write_all(b" values")?;
     values(to, reader::values_of(pile, s.block))?;
     to.write_all(b"\n")?;
@@ -71,12 +53,9 @@ fn step(to: &mut impl Write, pile: &[u8], passed: usize) -> io::Result<usize> {
 }
 
 fn walk(to: &mut impl Write, pile: &[u8]) -> io::Result<()> {
-    let end = pile.len() / 512 + 2;
-    let mut passed: usize = 0;
-    let mut i: usize = 0;
-    while i < end {
+    let mut passed = 0;
+    for _ in 0..pile.len() / 512 + 2 {
         passed = step(to, pile, passed)?;
-        i += 1;
     }
     Ok(())
 }
@@ -84,11 +63,8 @@ fn walk(to: &mut impl Write, pile: &[u8]) -> io::Result<()> {
 fn whole(to: &mut impl Write, pile: &[u8]) -> io::Result<()> {
     to.write_all(b" all")?;
     match reader::read_all(pile) {
-        Answer::Done(n) => {
-            to.write_all(b" blocks")?;
-            number(to, n)?;
-        }
-        Answer::Refused(r) => refused(to, r)?,
+        Ok(n) => write!(to, " blocks {n}")?,
+        Err(r) => refused(to, r)?,
     }
     to.write_all(b"\n")
 }

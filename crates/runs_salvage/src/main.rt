@@ -10,12 +10,10 @@ use std::{env, io};
 fn salvage_and_join(to: &mut impl Write, pile: &mut [u8]) -> io::Result<()> {
     let mut report = [0u8; 2444];
     let written = salvaged_text::salvaged_text(pile, &mut report);
-    let bytes = written.bytes;
-    let text = written.text;
-    to.write_all(&report[..text])?;
-    if 0 < bytes {
+    to.write_all(&report[..written.text])?;
+    if 0 < written.bytes {
         let mut out = [0u8; 128];
-        let count = joined_line::joined_line(&pile[..bytes], &mut out);
+        let count = joined_line::joined_line(&pile[..written.bytes], &mut out);
         to.write_all(&out[..count])?;
     }
     Ok(())

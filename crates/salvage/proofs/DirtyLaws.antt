@@ -9,10 +9,12 @@ use native.Mathlib.Omega.{arith}
 use native.Mathlib.Decide.{dec_lt}
 use lib.Arith.{lt_of_le-ne}
 use borrow.Author.Tests.{lt-ltb, le-ltb, ltb-true, ltb-false}
-use Rattle.lists.specs.Places.{those, first_in}
+use Rattle.std.specs.Prelude.{Option, Some, None}
+use Rattle.lists.specs.Places.{those, first_in, placed}
 use Rattle.lists.proofs.Truth.{isn't}
 use Rattle.lists.proofs.ThoseLaws.{in_those, those_in, those-none, those_one}
-use Rattle.lists.proofs.FirstLaws.{none_in, has_test, below_in, below_end, first_of}
+use Rattle.lists.proofs.FirstLaws.{none_in, has_test, below_in, first_of, placed_some, placed_none, some_placed, none_placed}
+use Rattle.pile.proofs.PileLaws.{placed_is}
 use Rattle.block.specs.Words.{word_at}
 use Rattle.block.specs.Open.{above}
 use Rattle.salvage.specs.Mended.{dirty_words, sole, CleanBut}
@@ -91,42 +93,46 @@ module _ (b : List ℕ) where
   sole_dirty h = one_dirty (sole (dirty_words b)) (sole-some (dirty_words b) h)
 
   -- ---- the code's two searches
-  pub search_none : (f : ℕ) → f ≡ first_in (above b) 1 257 → f ≡ 0 → 0 ≡ sole (dirty_words b)
-  search_none f e z =
-      sym (sole_none (dirty_words b) (dirty_none (λ k l h. ltb-false 32748 (word_at b k) (none_in (above b) 1 257 (omega arith) (sym e ∙ z) k l (omega arith)))))
+  -- one that begins at word s finds a word above 32748
+  hot_from : (s : ℕ) {r : Option ℕ} {g : ℕ} → r ≡ placed (first_in (above b) s 257) → r ≡ Some g → (s ≤ g) × (g ≤ 256) × (32748 < word_at b g)
+  hot_from s {g = g} e q =
+      let is = placed_is (first_in (above b) s 257) e q in
+      let some : first_in (above b) s 257 ≢ 0 = λ z. omega (arith, is.0, is.1, z) in
+      let t = has_test (above b) s 257 some in
+      (omega (arith, t.1, is.0), omega (arith, below_in (above b) s 257 some, is.0), rw (← is.0) (ltb-true 32748 _ t.0))
 
-  -- a search that begins at word s
-  pub first_hot_in : (s : ℕ) → 1 ≤ s → (g : ℕ) → g ≡ first_in (above b) s 257 → g ≢ 0 → (s ≤ g) × (g ≤ 256) × (32748 < word_at b g)
-  first_hot_in s l g e ne =
-      let r = has_test (above b) s 257 (λ z. ne (e ∙ z)) in
-      let hot : 32748 < word_at b g = rw e (ltb-true 32748 (word_at b (first_in (above b) s 257)) r.0) in
-      (rw e r.1, rw e (omega (arith, below_in (above b) s 257 (λ z. ne (e ∙ z)))), hot)
+  module _ {r : Option ℕ} (e : r ≡ placed (first_in (above b) 1 257)) where
+    -- the first finds none
+    pub search_none : r ≡ None → None ≡ placed (sole (dirty_words b))
+    search_none q =
+        let z = placed_none _ e q in
+        none_placed (sole_none (dirty_words b)
+        (dirty_none (λ k l h. ltb-false 32748 (word_at b k) (none_in (above b) 1 257 (omega arith) z k l (omega arith)))))
 
-  -- the first
-  pub first_hot : (f : ℕ) → f ≡ first_in (above b) 1 257 → f ≢ 0 → (1 ≤ f) × (f ≤ 256) × (32748 < word_at b f)
-  first_hot f e ne =
-      let r = has_test (above b) 1 257 (λ z. ne (e ∙ z)) in
-      (rw e r.1, rw e (below_end (above b) 256), rw e (ltb-true 32748 (word_at b (first_in (above b) 1 257)) r.0))
+    module _ {f : ℕ} (some : r ≡ Some f) where
+      pub first_hot : (1 ≤ f) × (f ≤ 256) × (32748 < word_at b f)
+      first_hot = hot_from 1 e some
 
-  module _ (f : ℕ) (e : f ≡ first_in (above b) 1 257) (ne : f ≢ 0) (g : ℕ) (q : g ≡ first_in (above b) (f + 1) 257) where
-    -- the second search finds none
-    pub search_one : g ≡ 0 → f ≡ sole (dirty_words b)
-    search_one z =
-        let h = first_hot f e ne in
-        let r = (first_of (above b) 1 257 f h.0 (omega (arith, h.1)) (lt-ltb 32748 (word_at b f) h.2)).0 in
-        let c : CleanBut b f = record {
-          small = λ k l m off. ltb-false 32748 (word_at b k)
-              (⊎_elim
-              (λ (less : k < f). r.least k l (rw (← e) less))
-              (λ (more : f ≤ k). none_in (above b) (f + 1) 257 (omega arith) (sym q ∙ z) k (omega (arith, lt_of_le-ne more (λ s. off (sym s)))) (omega arith))
-              (low_or_high k f));
-        } in
-        sym (sole_one (dirty_words b) f (dirty_one f h.0 h.1 h.2 c))
+      module _ {s : Option ℕ} (q : s ≡ placed (first_in (above b) (f + 1) 257)) where
+        -- the second finds none
+        pub search_one : s ≡ None → Some f ≡ placed (sole (dirty_words b))
+        search_one none =
+            let z = placed_none _ q none in
+            let is = placed_some (first_in (above b) 1 257) e some in
+            let h = first_hot in
+            let t = (first_of (above b) 1 257 f h.0 (omega (arith, h.1)) (lt-ltb 32748 (word_at b f) h.2)).0 in
+            let c : CleanBut b f = record {
+              small = λ k l m off. ltb-false 32748 (word_at b k)
+                  (⊎_elim
+                  (λ (less : k < f). t.least k l (rw is less))
+                  (λ (more : f ≤ k). none_in (above b) (f + 1) 257 (omega arith) z k (omega (arith, lt_of_le-ne more (λ s. off (sym s)))) (omega arith))
+                  (low_or_high k f));
+            } in
+            some_placed (sole_one (dirty_words b) f (dirty_one f h.0 h.1 h.2 c)) h.0
 
-    -- another behind it
-    pub search_two : g ≢ 0 → 0 ≡ sole (dirty_words b)
-    search_two some =
-        let h = first_hot f e ne in
-        let r = has_test (above b) (f + 1) 257 (λ z. some (q ∙ z)) in
-        let far = first_hot_in (f + 1) (omega arith) g q some in
-        sym (dirty_two f g h.0 h.1 (omega (arith, far.0)) far.1 (λ s. omega (arith, far.0)) h.2 far.2)
+        -- another behind it
+        pub search_two : {g : ℕ} → s ≡ Some g → None ≡ placed (sole (dirty_words b))
+        search_two {g} second =
+            let h = first_hot in
+            let far = hot_from (f + 1) q second in
+            none_placed (dirty_two f g h.0 h.1 (omega (arith, far.0)) far.1 (λ s. omega (arith, far.0)) h.2 far.2)

@@ -7,7 +7,7 @@ use Prim.Native.Nat.{ℕ, suc, ◌+◌, ◌-◌, ◌*◌, ◌/◌, ◌%◌, ◌�
 use native.Mathlib.Numerals.{add-one}
 use native.Mathlib.Omega.{arith}
 use lib.Dec.{eqb}
-use lib.ListN.{length, set, take, drop, length-append}
+use lib.ListN.{length, set, take, drop, length-append, length-set}
 use borrow.Author.Tests.{eq-eqb, ne_eqb}
 use Rattle.lists.specs.Over.{over}
 use Rattle.lists.specs.Places.{those}
@@ -15,7 +15,6 @@ use Rattle.lists.proofs.Truth.{same_or_not}
 use Rattle.lists.proofs.OverLaws.{over_two}
 use Rattle.salvage.specs.Mended.{rebuilt, mended_block}
 use Rattle.salvage.specs.Pile.{mended_first, mended_pile, differing, places, rebuilt_words}
-use Rattle.salvage.specs.Inner.{noted, noted_in}
 use Rattle.pile.specs.Blocks.{blocks}
 use Rattle.salvage.proofs.MendLaws.{rebuilt-some}
 use Rattle.salvage.proofs.PileLaws.{rest_first, step_is, differs_step}
@@ -30,16 +29,6 @@ places_more : (ks : List ℕ) (k : ℕ) → places (ks ++ k ∷ []) ≡ places k
 unfolding places
 places_more [] k = refl
 places_more (x ∷ ks) k = rw (places_more ks k)
-
--- ---- one place noted
-pub noted-none : (list : List ℕ) (count block word : ℕ) → word ≡ 0 → (count ≡ noted count word) × (list ≡ noted_in list count block word)
-unfolding noted noted_in
-noted-none list count block word z = (rw (eq-eqb word 0 z), rw (eq-eqb word 0 z))
-
-pub noted_one : (list : List ℕ) (count block word : ℕ) → word ≢ 0
-    → (count + 1 ≡ noted count word) × (set (set list (2 * count) block) (2 * count + 1) word ≡ noted_in list count block word)
-unfolding noted noted_in
-noted_one list count block word ne = (rw (ne_eqb word 0 ne), rw (ne_eqb word 0 ne))
 
 -- ---- the loop
 pub record Mending (old list₀ pile list : List ℕ) (all count a : ℕ) : Type 0 where
@@ -102,56 +91,53 @@ module _ {old list₀ pile list : List ℕ} {all count a : ℕ} (s : Mending old
     pub word_low : word ≤ 256
     word_low = ⊎_elim (λ (z : word ≡ 0). omega arith) (λ (ne : word ≢ 0). (low ne).1) (same_or_not word 0)
 
-    pub mend_on : (count' : ℕ) → count' ≡ noted count word → (list' : List ℕ) → list' ≡ noted_in list count (a + 1) word → length list' ≡ length list
-        → Mending old list₀ pile' list' all count' (a + 1)
+    -- nothing was rebuilt in block a + 1
+    pub mend_none : word ≡ 0 → Mending old list₀ pile' list all count (a + 1)
     unfolding ks
-    mend_on count' c list' l n = rw (add-one a) (⊎_elim none one (same_or_not word 0))
-      where
-        none : word ≡ 0 → Mending old list₀ pile' list' all count' (suc a)
-        none z =
-            let r = noted-none list count (a + 1) word z in
-            let e : differing old (mended_first (suc a) old) (suc a) ≡ ks =
-            more ∙ ap (λ (x : List ℕ). ks ++ x) (rw (eq-eqb word 0 z)) ∙ append-nil ks in
-            let c' : count' ≡ count = c ∙ sym r.0 in
-            record {
-              to = omega arith;
-              whole = s.whole;
-              most = s.most;
-              room = s.room;
-              len = len' ∙ s.len;
-              len_list = n ∙ s.len_list;
-              few = omega (arith, s.few);
-              stands = stands';
-              counted = c' ∙ s.counted ∙ ap length (sym e);
-              listed = l ∙ sym r.1 ∙ s.listed ∙ ap (λ (x : List ℕ). over (places x) list₀) (sym e);
-            }
+    mend_none z =
+        let e : differing old (mended_first (suc a) old) (suc a) ≡ ks =
+        more ∙ ap (λ (x : List ℕ). ks ++ x) (rw (eq-eqb word 0 z)) ∙ append-nil ks in
+        rw (add-one a) (record {
+          to = omega arith;
+          whole = s.whole;
+          most = s.most;
+          room = s.room;
+          len = len' ∙ s.len;
+          len_list = s.len_list;
+          few = omega (arith, s.few);
+          stands = stands';
+          counted = s.counted ∙ ap length (sym e);
+          listed = s.listed ∙ ap (λ (x : List ℕ). over (places x) list₀) (sym e);
+        })
 
-        one : word ≢ 0 → Mending old list₀ pile' list' all count' (suc a)
-        one ne =
-            let r = noted_one list count (a + 1) word ne in
-            let h = low ne in
-            let k = 256 * a + word in
-            let e : differing old (mended_first (suc a) old) (suc a) ≡ ks ++ k ∷ [] = more ∙ ap (λ (x : List ℕ). ks ++ x) (rw (ne_eqb word 0 ne)) in
-            let c' : count' ≡ count + 1 = c ∙ sym r.0 in
-            let x : (k - 1) / 256 + 1 ≡ a + 1 = omega (arith, h.0, h.1) in
-            let y : (k - 1) % 256 + 1 ≡ word = omega (arith, h.0, h.1) in
-            let p : places (ks ++ k ∷ []) ≡ places ks ++ (a + 1) ∷ word ∷ [] = places_more ks k ∙ ap₂ (λ (u v : ℕ). places ks ++ u ∷ v ∷ []) x y in
-            let m : 2 * count ≡ length (places ks) = omega (arith, s.counted, length-places ks) in
-            record {
-              to = omega arith;
-              whole = s.whole;
-              most = s.most;
-              room = s.room;
-              len = len' ∙ s.len;
-              len_list = n ∙ s.len_list;
-              few = omega (arith, s.few);
-              stands = stands';
-              counted = c' ∙ omega (arith, s.counted, ap length e, length-append ks (k ∷ []));
-              listed =
-                  l ∙ sym r.1 ∙ ap (λ (z : List ℕ). set (set z (2 * count) (a + 1)) (2 * count + 1) word) s.listed
-                  ∙ over_two (places ks) list₀ (a + 1) word (2 * count) m (omega (arith, s.few, s.room))
-                  ∙ ap (λ (z : List ℕ). over z list₀) (sym p ∙ ap places (sym e));
-            }
+    -- a word was: it is noted
+    pub mend_one : word ≢ 0 → Mending old list₀ pile' (set (set list (2 * count) (a + 1)) (2 * count + 1) word) all (count + 1) (a + 1)
+    unfolding ks
+    mend_one ne =
+        let h = low ne in
+        let k = 256 * a + word in
+        let e : differing old (mended_first (suc a) old) (suc a) ≡ ks ++ k ∷ [] = more ∙ ap (λ (x : List ℕ). ks ++ x) (rw (ne_eqb word 0 ne)) in
+        let x : (k - 1) / 256 + 1 ≡ suc a = omega (arith, h.0, h.1) in
+        let y : (k - 1) % 256 + 1 ≡ word = omega (arith, h.0, h.1) in
+        let p : places (ks ++ k ∷ []) ≡ places ks ++ suc a ∷ word ∷ [] = places_more ks k ∙ ap₂ (λ (u v : ℕ). places ks ++ u ∷ v ∷ []) x y in
+        let m : 2 * count ≡ length (places ks) = omega (arith, s.counted, length-places ks) in
+        let n : length (set (set list (2 * count) (suc a)) (2 * count + 1) word) ≡ length list =
+        length-set (set list (2 * count) (suc a)) (2 * count + 1) word ∙ length-set list (2 * count) (suc a) in
+        rw (add-one a) (record {
+          to = omega arith;
+          whole = s.whole;
+          most = s.most;
+          room = s.room;
+          len = len' ∙ s.len;
+          len_list = n ∙ s.len_list;
+          few = omega (arith, s.few);
+          stands = stands';
+          counted = omega (arith, s.counted, ap length e, length-append ks (k ∷ []));
+          listed =
+              ap (λ (z : List ℕ). set (set z (2 * count) (suc a)) (2 * count + 1) word) s.listed
+              ∙ over_two (places ks) list₀ (suc a) word (2 * count) m (omega (arith, s.few, s.room))
+              ∙ ap (λ (z : List ℕ). over z list₀) (sym p ∙ ap places (sym e));
+        })
 
   pub mend_end : all ≤ a → (pile ≡ mended_pile old) × (count ≡ length (rebuilt_words old)) × (list ≡ over (places (rebuilt_words old)) list₀)
   unfolding mended_pile rebuilt_words blocks

@@ -8,7 +8,10 @@ use native.Mathlib.Omega.{arith}
 use lib.Dec.{eqb}
 use lib.ListN.{length, get_or}
 use borrow.Author.Tests.{eq-eqb, ne_eqb}
-use Rattle.lists.specs.Places.{those}
+use Rattle.std.specs.Prelude.{Option, Some, None}
+use Rattle.lists.specs.Places.{those, placed}
+use Rattle.lists.proofs.FirstLaws.{placed_some, placed_none, some_placed, none_placed}
+use Rattle.pile.proofs.PileLaws.{placed_is}
 use Rattle.lists.proofs.Truth.{same_or_not}
 use Rattle.lists.proofs.ThoseLaws.{those-none, those_one}
 use Rattle.block.specs.Words.{word_at, put_at, Small}
@@ -145,27 +148,37 @@ module _ (b : List ℕ) where
           (λ s l m off. ap not (eq-eqb (word_at b s) (word_at (filled_in b i) s) (sym (word-put-other b i v o.from room s l off)))))
 
   -- ---- the code's three ends
-  module _ (i : ℕ) (is : i ≡ sole (dirty_words b)) where
-    pub end_none : i ≡ 0 → (0 ≡ rebuilt b) × (b ≡ mended_block b)
-    end_none z = let r = stays (sym is ∙ z) in (sym r.1, sym r.0)
+  module _ {r : Option ℕ} (e : r ≡ placed (sole (dirty_words b))) where
+    pub end_none : r ≡ None → (None ≡ placed (rebuilt b)) × (b ≡ mended_block b)
+    end_none q = let s = stays (placed_none _ e q) in (none_placed s.1, sym s.0)
 
-    pub the_one : i ≢ 0 → One b i
-    the_one ne = rw is (sole_dirty b (λ z. ne (is ∙ z)))
+    module _ {i : ℕ} (some : r ≡ Some i) where
+      is : sole (dirty_words b) ≡ i
+      is = placed_some _ e some
 
-    pub end_done : i ≢ 0 → (v : ℕ) → v ≡ value_for b i → (new : List ℕ) → new ≡ put_at b i v → first_wrong new ≡ 0
-        → (i ≡ rebuilt b) × (new ≡ mended_block b)
-    end_done ne v e new put z =
-        let f : new ≡ filled_in b i = put ∙ ap (put_at b i) e in
-        let r = rebuilt-at i (sym is) ne (ap first_wrong (sym f) ∙ z) in
-        (sym r, f ∙ sym (mended_some i r ne))
+      a_word : i ≢ 0
+      a_word z = omega (arith, (placed_is _ e some).1, z)
 
-    pub end_back : i ≢ 0 → (v : ℕ) → v ≡ value_for b i → (new : List ℕ) → new ≡ put_at b i v → first_wrong new ≢ 0
-        → (old : ℕ) → old ≡ word_at b i → (out : List ℕ) → out ≡ put_at new i old → get_or b (2 * (i - 1) + 1) 0 < 256
-        → (0 ≡ rebuilt b) × (out ≡ mended_block b)
-    end_back ne v e new put w old o out q byte =
-        let f : new ≡ filled_in b i = put ∙ ap (put_at b i) e in
-        let r = rebuilt_broken i (sym is) ne (λ z. w (ap first_wrong f ∙ z)) in
-        (sym r, q ∙ rw (put, put-put b i v old, o) (put_self b i byte) ∙ sym (mended_none r))
+      pub the_one : One b i
+      the_one = rw is at (sole_dirty b (λ z. a_word (sym is ∙ z)))
+
+      module _ (v : ℕ) (fits : v ≡ value_for b i) (new : List ℕ) (put : new ≡ put_at b i v) {s : Option ℕ} (q : s ≡ placed (first_wrong new)) where
+        filled : new ≡ filled_in b i
+        filled = put ∙ ap (put_at b i) fits
+
+        -- no word is wrong with it
+        pub end_done : s ≡ None → (Some i ≡ placed (rebuilt b)) × (new ≡ mended_block b)
+        end_done none =
+            let t = rebuilt-at i is a_word (ap first_wrong (sym filled) ∙ placed_none _ q none) in
+            (some_placed t the_one.from, filled ∙ sym (mended_some i t a_word))
+
+        -- one is, and the old word is put back
+        pub end_back : {j : ℕ} → s ≡ Some j → (old : ℕ) → old ≡ word_at b i → (out : List ℕ) → out ≡ put_at new i old → get_or b (2 * (i - 1) + 1) 0 < 256
+            → (None ≡ placed (rebuilt b)) × (out ≡ mended_block b)
+        end_back wrong old o out back byte =
+            let w = placed_is _ q wrong in
+            let t = rebuilt_broken i is a_word (λ z. omega (arith, w.0, w.1, ap first_wrong filled ∙ z)) in
+            (none_placed t, back ∙ rw (put, put-put b i v old, o) (put_self b i byte) ∙ sym (mended_none t))
 
 pub mend_twice : (b : List ℕ) → 512 ≤ length b → mended_block (mended_block b) ≡ mended_block b
 mend_twice b long =

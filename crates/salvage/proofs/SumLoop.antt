@@ -3,9 +3,11 @@ use mathlib.Core.Path.{◌≡◌, refl, sym, ap, ap₂, ◌∙◌}
 use mathlib.Core.List.{List}
 use Prim.Native.Nat.{ℕ, ◌+◌, ◌-◌, ◌*◌, ◌%◌, ◌≤◌}
 use native.Mathlib.Omega.{arith}
-use Rattle.block.specs.Words.{weighted}
+use mathlib.Core.Logic.{◌≢◌}
+use Rattle.block.specs.Words.{word_at, weighted}
 use Rattle.block.proofs.SumLaws.{weighted_step}
 use Rattle.salvage.specs.Mended.{without, other_sum}
+use Rattle.salvage.proofs.ValueLaws.{without_at, without_off}
 
 pub record Summing (b : List ℕ) (i sum k : ℕ) : Type 0 where
   pub from : 1 ≤ k
@@ -18,14 +20,22 @@ unfolding weighted
 sum-start b i = record { from = omega arith; to = omega arith; so_far = refl; low = omega arith }
 
 module _ {b : List ℕ} {i sum k : ℕ} (s : Summing b i sum k) where
-  pub sum_on : (v : ℕ) → v ≡ without b i k → k ≤ 255 → (next : ℕ) → next ≡ sum + k * v → next ≤ k * 8350740 → Summing b i next (k + 1)
-  sum_on v is l next e m =
+  turn : (v : ℕ) → v ≡ without b i k → k ≤ 255 → (next : ℕ) → next ≡ sum + k * v → next ≤ k * 8350740 → Summing b i next (k + 1)
+  turn v is l next e m =
       record {
         from = omega arith;
         to = omega arith;
         so_far = e ∙ ap₂ (λ (x y : ℕ). x + k * y) s.so_far is ∙ sym (weighted_step (without b i) k s.from);
         low = omega arith;
       }
+
+  -- word k is added
+  pub sum_more : k ≢ i → (v : ℕ) → v ≡ word_at b k → k ≤ 255 → (next : ℕ) → next ≡ sum + k * v → next ≤ k * 8350740 → Summing b i next (k + 1)
+  sum_more off v is = turn v (is ∙ sym (without_off b i k off))
+
+  -- it is word i, which is not
+  pub sum_kept : k ≡ i → k ≤ 255 → Summing b i sum (k + 1)
+  sum_kept here l = turn 0 (sym (without_at b i k here)) l sum (omega arith) (omega (arith, s.low))
 
   pub sum_end : k ≡ 256 → sum % 32749 ≡ other_sum b i % 32749
   unfolding other_sum

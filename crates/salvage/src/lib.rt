@@ -4,28 +4,14 @@
 
 mod mending;
 
-ghost use Rattle.std.specs.Prelude.{◌≡◌, ◌+◌, ◌*◌, ◌≤◌, length};
+ghost use Rattle.std.specs.Prelude.{◌≡◌, ◌*◌, ◌≤◌, length};
 ghost use Rattle.lists.specs.Over.{over};
 ghost use Rattle.answer.specs.Outcome.{outcome};
 ghost use Rattle.pile.specs.Blocks.{blocks};
 ghost use Rattle.salvage.specs.Pile.{mended_pile, rebuilt_words, places, salvaging, salvaged_pile, salvaged_list};
-ghost use Rattle.salvage.specs.Inner.{noted, noted_in};
 
 use answer::{Answer, Kind};
 use mending::mend_at;
-
-// Notes block and word behind the `count` places that the list has, and answers how many it has now; word 0 is none.
-fn note(list: &mut [u16], count: usize, block: u16, word: u16) -> usize
-    requires { 2 * count + 2 ≤ length list.old }
-    ensures { (result ≡ noted count word) × (list.new ≡ noted_in list.old count block word) }
-{
-    if word == 0 {
-        return count;
-    }
-    list[2 * count] = block;
-    list[2 * count + 1] = word;
-    count + 1
-}
 
 // Mends every block and notes each word rebuilt, in pile order, over the front of the list: how many they are. The rest of the list stays.
 fn mend_pile(pile: &mut [u8], list: &mut [u16]) -> usize
@@ -34,13 +20,13 @@ fn mend_pile(pile: &mut [u8], list: &mut [u16]) -> usize
         × (result ≡ length (rebuilt_words pile.old))
         × (list.new ≡ over (places (rebuilt_words pile.old)) list.old) }
 {
-    let blocks = pile.len() / 512;
     let mut count: usize = 0;
-    let mut a: usize = 0;
-    while a < blocks {
-        let word = mend_at(pile, 512 * a);
-        count = note(list, count, (a + 1) as u16, word as u16);
-        a += 1;
+    for a in 0..pile.len() / 512 {
+        if let Some(word) = mend_at(pile, 512 * a) {
+            list[2 * count] = (a + 1) as u16;
+            list[2 * count + 1] = word as u16;
+            count += 1;
+        }
     }
     count
 }
@@ -61,5 +47,5 @@ pub fn salvage(pile: &mut [u8], list: &mut [u16]) -> Answer
     if list.len() / 2 < blocks {
         return answer::refuse(Kind::Room, blocks, 0);
     }
-    Answer::Done(mend_pile(pile, list))
+    Ok(mend_pile(pile, list))
 }

@@ -1,13 +1,18 @@
 // What the salvaging program writes for a pile: the salvaged pile, and the report of it.
 #![tactic(auto)]
 
-ghost use Rattle.std.specs.Prelude.{◌*◌, ◌≤◌, length};
+ghost use Rattle.std.specs.Prelude.{◌≡◌, ◌*◌, ◌≤◌, length};
+ghost use Rattle.answer.specs.Outcome.{outcome};
+ghost use Rattle.answer.specs.Lent.{left};
+ghost use Rattle.block.specs.Open.{by_outcome};
+ghost use Rattle.salvage.specs.Pile.{mended_pile, rebuilt_words, places};
 ghost use Rattle.print.specs.Written.{Prints};
 ghost use Rattle.print.specs.Inner.{Room, Writes};
 ghost use Rattle.print.specs.Lines.{rising};
-ghost use Rattle.salvaged_text.specs.Salvaged.{place_line, report, salvaged_text, salvaged_bytes};
+ghost use Rattle.salvaged_text.specs.Salvaged.{program_salvages, place_line, report, salvaged_text, salvaged_bytes};
 
-use answer::{Answer, Kind, Refusal};
+use answer::{Answer, Kind};
+use print::Page;
 
 // How many bytes of the lent pile are for standard output, and how many of the lent text for standard error.
 #[derive(Clone, Copy)]
@@ -17,28 +22,40 @@ pub struct Report {
 }
 
 // Writes the lines of the first n places of the list.
-fn write_places(out: &mut [u8], at: usize, list: &[u16], n: usize) -> usize
-    requires { (2 * n ≤ length list.now) × Room (rising (place_line list.now) n) at out.old }
-    ensures { Writes (rising (place_line list.now) n) at out.old out.new result }
+fn write_places(page: &mut Page, list: &[u16], n: usize)
+    requires listed { 2 * n ≤ length list.now }
+    requires room { Room (rising (place_line list.now) n) page.old }
+    ensures same_buffer { page.new.out.ghost_name ≡ page.old.out.ghost_name }
+    ensures written { Writes (rising (place_line list.now) n) page.old page.new }
 {
-    let mut p = at;
-    let mut j = 0;
-    while j < n {
-        let block = list[2 * j] as usize;
-        let word = list[2 * j + 1] as usize;
-        p = print::write_pair(out, p, b"block", block, b" word", word);
-        j += 1;
+    for j in 0..n {
+        let block = usize::from(list[2 * j]);
+        let word = usize::from(list[2 * j + 1]);
+        page.write_pair(b"block", block, b" word", word);
     }
-    p
 }
 
 // Writes the report of n words, whose places the list has.
-fn write_report(out: &mut [u8], list: &[u16], n: usize) -> usize
-    requires { (2 * n ≤ length list.now) × Room (report n list.now) 0 out.old }
-    ensures { Writes (report n list.now) 0 out.old out.new result }
+fn write_report(page: &mut Page, list: &[u16], n: usize)
+    requires listed { 2 * n ≤ length list.now }
+    requires room { Room (report n list.now) page.old }
+    ensures same_buffer { page.new.out.ghost_name ≡ page.old.out.ghost_name }
+    ensures written { Writes (report n list.now) page.old page.new }
 {
-    let p = print::write_label(out, 0, b"rebuilt", n, b"\n");
-    write_places(out, p, list, n)
+    page.write_label(b"rebuilt", n, b"\n");
+    write_places(page, list, n);
+}
+
+// Salvages a pile of at most 65,536 bytes where it stands. A refusal changes neither the pile nor the list.
+fn salvage_pile(pile: &mut [u8], list: &mut [u16; 256]) -> Answer
+    ensures says { outcome result ≡ program_salvages pile.old }
+    ensures mends { pile.new ≡ by_outcome (program_salvages pile.old) (mended_pile pile.old) pile.old }
+    ensures lists { list.new ≡ left (program_salvages pile.old) (places (rebuilt_words pile.old)) list.old }
+{
+    if 65536 < pile.len() {
+        return answer::refuse(Kind::Long, 0, 0);
+    }
+    salvage::salvage(pile, list)
 }
 
 // Salvages the pile where it stands and writes the report, or writes the refusal. No report is longer than 2,444 bytes.
@@ -46,27 +63,20 @@ pub fn salvaged_text(pile: &mut [u8], out: &mut [u8; 2444]) -> Report
     ensures text { Prints (salvaged_text pile.old) out.old out.new result.text }
     ensures bytes { Prints (salvaged_bytes pile.old) pile.old pile.new result.bytes }
 {
-    let size = pile.len();
-    if 65536 < size {
-        let text = print::write_refusal(
-            out,
-            Refusal {
-                kind: Kind::Long,
-                a: 0,
-                b: 0,
-            },
-        );
-        return Report { bytes: 0, text };
-    }
-    let mut list = [0u16; 256];
-    match salvage::salvage(pile, &mut list) {
-        Answer::Done(n) => {
-            let text = write_report(out, &list, n);
-            Report { bytes: size, text }
+    let mut page = Page::new(out);
+    let mut list = [0; 256];
+    let bytes = match salvage_pile(pile, &mut list) {
+        Ok(n) => {
+            write_report(&mut page, &list, n);
+            pile.len()
         }
-        Answer::Refused(r) => {
-            let text = print::write_refusal(out, r);
-            Report { bytes: 0, text }
+        Err(refusal) => {
+            page.write_refusal(refusal);
+            0
         }
+    };
+    Report {
+        bytes,
+        text: page.at,
     }
 }

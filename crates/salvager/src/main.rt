@@ -10,8 +10,6 @@ fn main(rt: HostRuntime) -> io::Result<()> {
     let size = streams::read_full(&mut rt.reader(), &mut pile)?;
     let mut out = [0u8; 2444];
     let report = salvaged_text::salvaged_text(&mut pile[..size], &mut out);
-    let bytes = report.bytes;
-    let text = report.text;
-    rt.stdout().write_all(&pile[..bytes])?;
-    rt.stderr().write_all(&out[..text])
+    rt.stdout().write_all(&pile[..report.bytes])?;
+    rt.stderr().write_all(&out[..report.text])
 }

@@ -68,16 +68,10 @@ write_on rows old now j v h l e is =
     let more : map number_of (take (j + 1) rows) ≡ done ++ v ∷ [] = rw (add-one, take-suc rows j [] h, map-append, e) in
     ap (λ (r : List ℕ). set r j v) is ∙ (rw n at (over_more done old v (omega arith))) ∙ ap (λ (r : List ℕ). over r old) (sym more)
 
--- ---- seven words stored one by one over seven places
-pub seven-over : (a b c d e f g : ℕ) (old : List ℕ) → length old ≡ 7
-    → set (set (set (set (set (set (set old 0 a) 1 b) 2 c) 3 d) 4 e) 5 f) 6 g ≡ over (a ∷ b ∷ c ∷ d ∷ e ∷ f ∷ g ∷ []) old
+-- ---- words that fill all that was lent
+pub whole-over : (new old : List ℕ) → length new ≡ length old → new ≡ over new old
 unfolding over
-seven-over a b c d e f g (o1 ∷ o2 ∷ o3 ∷ o4 ∷ o5 ∷ o6 ∷ o7 ∷ []) h = refl
-seven-over a b c d e f g (o1 ∷ o2 ∷ o3 ∷ o4 ∷ o5 ∷ o6 ∷ o7 ∷ o8 ∷ old) h = absurd (omega arith)
-seven-over a b c d e f g [] h = absurd (omega arith)
-seven-over a b c d e f g (o1 ∷ []) h = absurd (omega arith)
-seven-over a b c d e f g (o1 ∷ o2 ∷ []) h = absurd (omega arith)
-seven-over a b c d e f g (o1 ∷ o2 ∷ o3 ∷ []) h = absurd (omega arith)
-seven-over a b c d e f g (o1 ∷ o2 ∷ o3 ∷ o4 ∷ []) h = absurd (omega arith)
-seven-over a b c d e f g (o1 ∷ o2 ∷ o3 ∷ o4 ∷ o5 ∷ []) h = absurd (omega arith)
-seven-over a b c d e f g (o1 ∷ o2 ∷ o3 ∷ o4 ∷ o5 ∷ o6 ∷ []) h = absurd (omega arith)
+whole-over [] [] h = refl
+whole-over [] (o ∷ old) h = absurd (omega (arith, h))
+whole-over (x ∷ new) [] h = absurd (omega (arith, h))
+whole-over (x ∷ new) (o ∷ old) h = ap (λ (l : List ℕ). x ∷ l) (whole-over new old (omega (arith, h)))

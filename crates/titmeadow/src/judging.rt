@@ -5,31 +5,34 @@ ghost use Rattle.holdings.specs.Holdings.{list_of};
 ghost use Rattle.holdings.specs.Judged.{judging, judged};
 ghost use Rattle.titmeadow.specs.Said.{told};
 
-use crate::{Said, said_of};
-use answer::Answer;
-use holdings::Judged;
+use crate::Said;
+use answer::{Answer, Refusal};
+use holdings::{Holdings, Verdict};
+use planning::Policy;
 
 // The first group for which the list fails, 0 where it suits, and on which side: 1 with too few pieces, 2 with enough.
-fn told_of(x: Judged) -> Said
-    ensures { result ≡ told (judged x) }
-{
-    match x {
-        Judged::Suits => Said {
-            number: 0,
-            a: 0,
-            b: 0,
-        },
-        Judged::Few(g) => Said {
-            number: 0,
-            a: g,
-            b: 1,
-        },
-        Judged::Many(g) => Said {
-            number: 0,
-            a: g,
-            b: 2,
-        },
-        Judged::Refused(r) => said_of(Answer::Refused(r)),
+impl From<Result<Verdict, Refusal>> for Said {
+    ghost from_gives = { λ x s. s ≡ told (judged x) };
+
+    fn from(x: Result<Verdict, Refusal>) -> Said {
+        match x {
+            Ok(Verdict::Suits) => Said {
+                number: 0,
+                a: 0,
+                b: 0,
+            },
+            Ok(Verdict::Few(g)) => Said {
+                number: 0,
+                a: g,
+                b: 1,
+            },
+            Ok(Verdict::Many(g)) => Said {
+                number: 0,
+                a: g,
+                b: 2,
+            },
+            Err(r) => Said::from(Answer::Err(r)),
+        }
     }
 }
 
@@ -46,13 +49,16 @@ pub extern "C" fn titmeadow_judge(
 ) -> Said
     ensures { result ≡ told (judging (policy_of people required.now forbidden.now) (list_of list_people pieces needed marks.now)) }
 {
-    told_of(holdings::judge(
+    let policy = Policy {
         people,
         required,
         forbidden,
-        list_people,
+    };
+    let list = Holdings {
+        people: list_people,
         pieces,
         needed,
         marks,
-    ))
+    };
+    Said::from(holdings::judge(policy, list))
 }

@@ -10,7 +10,7 @@ ghost use Rattle.answer.specs.Outcome.{outcome};
 ghost use Rattle.lists.specs.Over.{over};
 ghost use Rattle.planning.specs.Policy.{policy_of};
 ghost use Rattle.planning.specs.Planned.{planned};
-ghost use Rattle.block.specs.Open.{opening, words_of};
+ghost use Rattle.block.specs.Open.{opening};
 ghost use Rattle.dealing.specs.Deal.{deal_from};
 ghost use Rattle.dealing.specs.Dealt.{dealing, dealt_into};
 ghost use Rattle.joining.specs.Joined.{joining, joined_into};
@@ -25,11 +25,12 @@ ghost use Rattle.titmeadow.specs.Inner.{number_of};
 
 use adding::Pair;
 use answer::Answer;
-use block::{Opened, Words};
+use dealing::Deal;
 pub use desks::{
     titmeadow_desk_ask, titmeadow_desk_close, titmeadow_desk_hand_in, titmeadow_desk_open,
 };
 pub use judging::titmeadow_judge;
+use planning::{Policy, Rows};
 pub use sets::titmeadow_deal_by_sets;
 
 // Number 0: a result, its value in a; else a refusal and its two places.
@@ -42,21 +43,17 @@ pub struct Said {
 }
 
 // An answer as three numbers.
-fn said_of(x: Answer) -> Said
-    ensures { result ≡ said (outcome x) }
-{
-    match x {
-        Answer::Done(v) => Said {
-            number: 0,
-            a: v,
-            b: 0,
-        },
-        Answer::Refused(r) => {
-            let kind = r.kind;
-            let a = r.a;
-            let b = r.b;
-            let number = answer::number_of(kind);
-            Said { number, a, b }
+impl From<Answer> for Said {
+    ghost from_gives = { λ x s. s ≡ said (outcome x) };
+
+    fn from(x: Answer) -> Said {
+        match x {
+            Ok(a) => Said { number: 0, a, b: 0 },
+            Err(r) => Said {
+                number: usize::from(r.kind),
+                a: r.a,
+                b: r.b,
+            },
         }
     }
 }
@@ -83,15 +80,12 @@ fn group_of(row: [bool; 8]) -> u16
 }
 
 // The groups of the first k rows over the front of `groups`.
-fn write_groups(rows: &[[bool; 8]; 70], k: usize, groups: &mut [u16])
+fn write_groups(rows: &Rows, k: usize, groups: &mut [u16])
     requires { (k ≤ 70) × (length rows.now ≡ 70) × (length groups.old ≡ 70) }
     ensures { groups.new ≡ over (map number_of (take k rows.now)) groups.old }
 {
-    let mut j: usize = 0;
-    while j < k {
-        let row = rows[j];
-        groups[j] = group_of(row);
-        j += 1;
+    for j in 0..k {
+        groups[j] = group_of(rows[j]);
     }
 }
 
@@ -106,13 +100,18 @@ pub extern "C" fn titmeadow_plan(
     ensures says { result ≡ said (planned (policy_of people required.now forbidden.now)) }
     ensures leaves { groups.new ≡ groups_into (policy_of people required.now forbidden.now) groups.old }
 {
+    let policy = Policy {
+        people,
+        required,
+        forbidden,
+    };
     let mut rows = [[false; 8]; 70];
-    match planning::plan_into(people, required, forbidden, &mut rows) {
-        Answer::Done(k) => {
+    match planning::plan_into(policy, &mut rows) {
+        Ok(k) => {
             write_groups(&rows, k, groups);
-            said_of(Answer::Done(k))
+            Said::from(Answer::Ok(k))
         }
-        Answer::Refused(r) => said_of(Answer::Refused(r)),
+        Err(r) => Said::from(Answer::Err(r)),
     }
 }
 
@@ -132,9 +131,19 @@ pub extern "C" fn titmeadow_deal(
     ensures says { result ≡ said (dealing (deal_from (policy_of people required.now forbidden.now) deal year secret.now random.now) holder (length card.old)) }
     ensures leaves { card.new ≡ dealt_into (deal_from (policy_of people required.now forbidden.now) deal year secret.now random.now) holder card.old }
 {
-    said_of(dealing::deal(
-        people, required, forbidden, deal, year, holder, secret, random, card,
-    ))
+    let policy = Policy {
+        people,
+        required,
+        forbidden,
+    };
+    let deal = Deal {
+        policy,
+        number: deal,
+        year,
+        secret,
+        random,
+    };
+    Said::from(dealing::deal(deal, holder, card))
 }
 
 // The secret of a pile into the front of `secret`: the number of its words.
@@ -143,7 +152,7 @@ pub extern "C" fn titmeadow_join(pile: &[u8], secret: &mut [u16]) -> Said
     ensures says { result ≡ said (joining pile.now (length secret.old)) }
     ensures leaves { secret.new ≡ joined_into pile.now secret.old }
 {
-    said_of(joining::join(pile, secret))
+    Said::from(joining::join(pile, secret))
 }
 
 // The same by differences alone.
@@ -152,7 +161,7 @@ pub extern "C" fn titmeadow_join_by_differences(pile: &[u8], secret: &mut [u16])
     ensures says { result ≡ said (joining pile.now (length secret.old)) }
     ensures leaves { secret.new ≡ joined_into pile.now secret.old }
 {
-    said_of(joining::join_by_differences(pile, secret))
+    Said::from(joining::join_by_differences(pile, secret))
 }
 
 // The same by weights that are ready made.
@@ -161,21 +170,7 @@ pub extern "C" fn titmeadow_join_by_weights(pile: &[u8], secret: &mut [u16]) -> 
     ensures says { result ≡ said (joining pile.now (length secret.old)) }
     ensures leaves { secret.new ≡ joined_into pile.now secret.old }
 {
-    said_of(joining::join_by_weights(pile, secret))
-}
-
-// Words 1 to 7 over seven places.
-fn write_head(h: Words, head: &mut [u16])
-    requires { length head.old ≡ 7 }
-    ensures { head.new ≡ over (words_of h) head.old }
-{
-    head[0] = h.mark;
-    head[1] = h.deal;
-    head[2] = h.holder;
-    head[3] = h.people;
-    head[4] = h.pieces;
-    head[5] = h.width;
-    head[6] = h.piece;
+    Said::from(joining::join_by_weights(pile, secret))
 }
 
 // Words 1 to 7 of the first block of a pile into the seven places lent; the result is 7.
@@ -185,11 +180,13 @@ pub extern "C" fn titmeadow_open(pile: &[u8], head: &mut [u16; 7]) -> Said
     ensures leaves { head.new ≡ head_into pile.now head.old }
 {
     match block::open(pile) {
-        Opened::Head(h) => {
-            write_head(h, head);
-            said_of(Answer::Done(7))
+        Ok(h) => {
+            *head = [
+                h.mark, h.deal, h.holder, h.people, h.pieces, h.width, h.piece,
+            ];
+            Said::from(Answer::Ok(7))
         }
-        Opened::Refused(r) => said_of(Answer::Refused(r)),
+        Err(r) => Said::from(Answer::Err(r)),
     }
 }
 
@@ -200,7 +197,7 @@ pub extern "C" fn titmeadow_salvage(pile: &mut [u8], list: &mut [u16]) -> Said
     ensures mends { pile.new ≡ salvaged_pile pile.old (length list.old) }
     ensures lists { list.new ≡ salvaged_list pile.old list.old }
 {
-    said_of(salvage::salvage(pile, list))
+    Said::from(salvage::salvage(pile, list))
 }
 
 // The ten words of a key into the ten places lent; the result is 10.
@@ -209,14 +206,13 @@ pub extern "C" fn titmeadow_pack(key: &[u8], words: &mut [u16; 10]) -> Said
     ensures says { result ≡ said (packing key.now) }
     ensures leaves { words.new ≡ words_into key.now words.old }
 {
-    let packed = packing::pack(key);
-    let answer = packed.answer;
-    if let Answer::Refused(r) = answer {
-        return said_of(Answer::Refused(r));
+    match packing::pack(key) {
+        Ok(ten) => {
+            *words = ten;
+            Said::from(Answer::Ok(10))
+        }
+        Err(r) => Said::from(Answer::Err(r)),
     }
-    let ten = packed.words;
-    *words = ten;
-    said_of(Answer::Done(10))
 }
 
 // The key of ten words into the front of `key`; the result is 16.
@@ -225,7 +221,7 @@ pub extern "C" fn titmeadow_unpack(words: &[u16], key: &mut [u8]) -> Said
     ensures says { result ≡ said (unpacking words.now (length key.old)) }
     ensures leaves { key.new ≡ unpacked_into words.now key.old }
 {
-    said_of(packing::unpack(words, key))
+    Said::from(packing::unpack(words, key))
 }
 
 // One holder's card of a key into the front of `card`: the number of blocks.
@@ -244,9 +240,12 @@ pub extern "C" fn titmeadow_deal_key(
     ensures says { result ≡ said (dealing (key_deal (policy_of people required.now forbidden.now) deal year key.now random.now) holder (length card.old)) }
     ensures leaves { card.new ≡ dealt_into (key_deal (policy_of people required.now forbidden.now) deal year key.now random.now) holder card.old }
 {
-    said_of(key::deal_key(
-        people, required, forbidden, deal, year, holder, key, random, card,
-    ))
+    let policy = Policy {
+        people,
+        required,
+        forbidden,
+    };
+    Said::from(key::deal_key(policy, deal, year, holder, key, random, card))
 }
 
 // The key of a pile into the front of `key`; the result is 16.
@@ -255,7 +254,7 @@ pub extern "C" fn titmeadow_join_key(pile: &[u8], key: &mut [u8]) -> Said
     ensures says { result ≡ said (joining_key pile.now (length key.old)) }
     ensures leaves { key.new ≡ joined_key_into pile.now key.old }
 {
-    said_of(key::join_key(pile, key))
+    Said::from(key::join_key(pile, key))
 }
 
 // The sum of two blocks under a new deal number and year into the front of `block`; the result is 1, a number of blocks.
@@ -270,9 +269,6 @@ pub extern "C" fn titmeadow_add(
     ensures says { result ≡ said (adding one.now two.now (pair_of deal year) (length block.old)) }
     ensures leaves { block.new ≡ sum_into one.now two.now (pair_of deal year) block.old }
 {
-    let new = Pair {
-        number: deal,
-        year: year,
-    };
-    said_of(adding::add(one, two, new, block))
+    let new = Pair { number: deal, year };
+    Said::from(adding::add(one, two, new, block))
 }

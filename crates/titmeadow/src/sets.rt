@@ -5,7 +5,9 @@ ghost use Rattle.dealing.specs.Deal.{deal_from};
 ghost use Rattle.bysets.specs.Dealt.{set_dealing, set_dealt_into};
 ghost use Rattle.titmeadow.specs.Said.{said};
 
-use crate::{Said, said_of};
+use crate::Said;
+use dealing::Deal;
+use planning::Policy;
 
 // One holder's card by the minimal required sets over the front of `card`: its number of blocks.
 #[unsafe(no_mangle)]
@@ -23,7 +25,17 @@ pub extern "C" fn titmeadow_deal_by_sets(
     ensures says { result ≡ said (set_dealing (deal_from (policy_of people required.now forbidden.now) deal year secret.now random.now) holder (length card.old)) }
     ensures leaves { card.new ≡ set_dealt_into (deal_from (policy_of people required.now forbidden.now) deal year secret.now random.now) holder card.old }
 {
-    said_of(bysets::deal_by_sets(
-        people, required, forbidden, deal, year, holder, secret, random, card,
-    ))
+    let policy = Policy {
+        people,
+        required,
+        forbidden,
+    };
+    let deal = Deal {
+        policy,
+        number: deal,
+        year,
+        secret,
+        random,
+    };
+    Said::from(bysets::deal_by_sets(deal, holder, card))
 }

@@ -30,11 +30,8 @@ pub fn weights(k: usize) -> [u16; 70]
 {
     let line = table::stored_line(line_of(k));
     let mut table = [0u16; 70];
-    let mut j: usize = 1;
-    while j <= k {
-        let place = place_of(k, j);
-        table[j - 1] = line[place];
-        j += 1;
+    for j in 1..k + 1 {
+        table[j - 1] = line[place_of(k, j)];
     }
     table
 }

@@ -285,7 +285,8 @@ const LINE_35: [u16; 71] = [
     20160, 21829, 24891, 10882, 22654, 32485, 29434, 17148, 16753, 6593, 7140, 32119, 36, 32748,
 ];
 
-// Line m. Of no pieces there is no line, and nothing is said of what is given for it.
+// Line m. Of no pieces there is no line, and nothing is said of what is given for it. A match, since the compiler writes one array of all lines into
+// the frame of its reader: 5,176 bytes of stack were measured.
 pub fn stored_line(m: usize) -> [u16; 71]
     requires { m ≤ 35 }
     ensures { 1 ≤ m → result ≡ line m }

@@ -7,30 +7,15 @@ use lib.ListN.{length-set}
 use Rattle.lists.specs.Run.{run}
 use Rattle.lists.specs.Over.{over}
 use Rattle.lists.proofs.OverLaws.{over_on}
-use Rattle.prime.specs.Prime.{p}
 use Rattle.block.specs.Words.{word_at}
 use Rattle.adding.proofs.SumLaws.{value_sum, width-most, front-values}
 use Rattle.adding.proofs.added_values.Goals as goal
 
 pub loop-i-init : goal.loop-i-init
 unfolding run over
-loop-i-init c =
-    (omega (arith, c.requires.w_value.0, width-most c.requires.true_block.0), omega arith, refl, refl, refl)
+loop-i-init c = (omega (arith, c.requires.w_value.0, width-most c.requires.true_block.0), refl, refl, refl)
 
 -- no word of the two blocks is above 32748, and all are in them
-pub word-requires : goal.word-requires
-word-requires c = (omega arith, omega (arith, c.requires.true_block.0.long))
-
-pub word-requires-in-loop-i : goal.word-requires-in-loop-i
-word-requires-in-loop-i c = (omega arith, omega (arith, c.requires.true_block.1.long))
-
-pub add-requires : goal.add-requires
-add-requires c =
-    let i = c.loop-i.i in (
-      omega (arith, c.word.ensures, c.requires.true_block.0.clean.small (8 + i) (omega arith) (omega arith)),
-      omega (arith, c.word-in-loop-i.ensures, c.requires.true_block.1.clean.small (8 + i) (omega arith) (omega arith)),
-    )
-
 pub loop-i-preserved : goal.loop-i-preserved
 loop-i-preserved c =
     let v = c.loop-i in
@@ -39,11 +24,10 @@ loop-i-preserved c =
     let one = c.word.ensures ∙ ap (word_at a.one.now) e in
     let two = c.word-in-loop-i.ensures ∙ ap (word_at a.two.now) e in (
       v.invariant.0,
-      omega arith,
-      v.invariant.2,
-      length-set v.made v.i c.add.result ∙ v.invariant.3,
-      over_on (value_sum a.one.now a.two.now) _ v.made v.i c.add.result (omega (arith, v.invariant.2))
-          (c.add.ensures ∙ ap₂ (λ (x y : ℕ). (x + y) % p) one two) v.invariant.4,
+      v.invariant.1,
+      length-set v.made v.i c.add.result ∙ v.invariant.2,
+      over_on (value_sum a.one.now a.two.now) _ v.made v.i c.add.result (omega (arith, v.invariant.1))
+          (c.add.ensures ∙ ap₂ (λ (x y : ℕ). (x + y) % 32749) one two) v.invariant.3,
     )
 
 pub returns : goal.returns
@@ -51,4 +35,4 @@ returns c =
     let a = c.args in
     let all : c.loop-i.i ≡ a.w = omega arith in
     front-values a.one.now a.two.now a.w c.requires.w_value.0 c.requires.w_value.1 _ c.loop-i.made
-    (c.loop-i.invariant.4 ∙ ap (λ (n : ℕ). over (run (value_sum a.one.now a.two.now) 1 n) _) all)
+    (c.loop-i.invariant.3 ∙ ap (λ (n : ℕ). over (run (value_sum a.one.now a.two.now) 1 n) _) all)

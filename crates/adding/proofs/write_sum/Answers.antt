@@ -6,13 +6,8 @@ use mathlib.Core.List.{List}
 use native.Mathlib.Omega.{arith}
 use lib.Seq.{length-take-le}
 use Rattle.lists.specs.Over.{over}
-use Rattle.adding.proofs.SumLaws.{width-most, widths, label-from, built, bytes_are}
+use Rattle.adding.proofs.SumLaws.{width-most, label-from, built, bytes_are}
 use Rattle.adding.proofs.write_sum.Goals as goal
-
-pub added_values-made-requires : goal.added_values-made-requires
-added_values-made-requires c =
-    let y = c.requires in
-    record { true_block = (y.true_one, y.true_two); w_value = (c.word-width.ensures, c.word-width.ensures ∙ widths y) }
 
 pub slice_bounds-made-end : goal.slice_bounds-made-end
 slice_bounds-made-end c = let few : c.word-width.result ≤ 16 = omega (arith, c.word-width.ensures, width-most c.requires.true_one) in

@@ -1,4 +1,4 @@
--- `desk::close` meets its contract: the two parts of the state, as the two calls left them, are the state that was meant. Assumes nothing.
+-- `desk::close` meets its contract: the two parts of the state, as `closed` left them, are the state that was meant. Assumes nothing.
 use mathlib.Core.Path.{ap₂, ◌∙◌}
 use mathlib.Core.List.{List}
 use Prim.Native.Nat.{ℕ}
@@ -11,4 +11,4 @@ pub returns : goal.returns
 returns c =
     let d = c.args.d.now in
     let made : Clients → List ℕ → Desk = λ k l. record { slots = l; clients = k } in
-    (c.closed.ensures.0, ap₂ made c.forgotten-after.ensures c.closed.ensures.1 ∙ close_parts d c.args.client)
+    (c.closed.ensures.says, ap₂ made c.closed.ensures.leaves.1 c.closed.ensures.leaves.0 ∙ close_parts d c.args.client)

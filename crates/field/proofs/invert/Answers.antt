@@ -1,25 +1,13 @@
 -- `field::invert` meets its contract. The invariant: r is a·s mod p, and neither 0 nor above 32748.
 -- Assumes nothing.
 use mathlib.Core.Path.{◌≡◌, subst}
-use Prim.Native.Nat.{ℕ, ◌*◌, ◌/◌}
+use Prim.Native.Nat.{ℕ, ◌*◌}
 use native.Mathlib.Omega.{arith}
-use native.Mathlib.Nat.{mod-lt, div-le_self, sub-le, le_of_lt, mul-le-mul}
+use native.Mathlib.Nat.{mod-lt}
 use Rattle.prime.specs.Prime.{p}
 use Rattle.prime.proofs.Mod.{◌≈◌}
 use Rattle.prime.proofs.Prime.{no_divisor, inverse_one, remainder}
 use Rattle.field.proofs.invert.Goals as goal
-
-pub loop-r-init : goal.loop-r-init
-loop-r-init c = omega (arith, c.requires)
-
-pub overflow_sub-s : goal.overflow_sub-s
-overflow_sub-s c = div-le_self p c.loop-r.r
-
-pub overflow_mul-s : goal.overflow_mul-s
-overflow_mul-s c = omega (arith, c.loop-r.invariant, mul-le-mul (le_of_lt c.loop-r.invariant.2) (sub-le p (p / c.loop-r.r)))
-
-pub loop-r-smaller : goal.loop-r-smaller
-loop-r-smaller c = mod-lt p c.loop-r.invariant.0
 
 pub loop-r-preserved : goal.loop-r-preserved
 loop-r-preserved c =

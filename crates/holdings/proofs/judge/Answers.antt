@@ -4,9 +4,10 @@ use mathlib.Core.Path.{◌≡◌, sym, ap, ◌∙◌}
 use mathlib.Core.Bool.{Bool, false}
 use Prim.Native.Nat.{ℕ}
 use Rattle.answer.specs.Outcome.{done}
+use Rattle.answer.proofs.PassedOn.{passed_on}
 use Rattle.planning.proofs.PlannedLaws.{check_refuses, clear}
-use Rattle.holdings.specs.Holdings.{Holdings, list_of}
-use Rattle.holdings.specs.Judged.{wrong_rows, verdict}
+use Rattle.holdings.specs.Holdings.{Holdings}
+use Rattle.holdings.specs.Judged.{wrong_rows, judged}
 use Rattle.holdings.specs.Laws.{InOrder}
 use Rattle.holdings.proofs.RowLaws.{rows_exactly}
 use Rattle.holdings.proofs.VerdictLaws.{as_planned, rows_refuse, then_verdict}
@@ -16,26 +17,23 @@ use Rattle.holdings.proofs.judge.Goals as goal
 in_order : {n : ℕ} {l : Holdings} {b : Bool} → b ≡ wrong_rows n l → b ≡ false → InOrder n l
 in_order {n} {l} says e = (rows_exactly n l).0 (sym says ∙ e)
 
-pub returns-in-Refused : goal.returns-in-Refused
-returns-in-Refused c =
-    sym (as_planned _ _ _ _ _ (sym (check_refuses _ c.check.ensures c.in-Refused.is)))
+pub returns-in_err-check : goal.returns-in_err-check
+returns-in_err-check c =
+    ap judged (passed_on c.from_residual.ensures.1) ∙ sym (as_planned _ _ _ _ _ (sym (check_refuses _ c.check.ensures c.in_err-check.was)))
 
 pub wrong_rows-requires : goal.wrong_rows-requires
-wrong_rows-requires c = (clear _ c.check.ensures c.in_default.is).listed_so.few
+wrong_rows-requires c = (clear _ c.check.ensures c.in_ok-check.was).listed_so.few
 
 pub returns-then-wrong_rows : goal.returns-then-wrong_rows
 returns-then-wrong_rows c =
-    sym (rows_refuse _ _ (clear _ c.check.ensures c.in_default.is).then (sym c.wrong_rows.ensures ∙ c.if-wrong_rows.true))
+    ap judged c.refuse.ensures
+    ∙ sym (rows_refuse _ _ (clear _ c.check.ensures c.in_ok-check.was).then (sym c.wrong_rows.ensures ∙ c.if-wrong_rows.true))
 
 pub judge_list-requires : goal.judge_list-requires
 judge_list-requires c =
-    let h = in_order c.wrong_rows.ensures c.if-wrong_rows.false in
-    ((clear _ c.check.ensures c.in_default.is).listed_so.few, rw h.same-people at h)
+    ((clear _ c.check.ensures c.in_ok-check.was).listed_so.few, in_order c.wrong_rows.ensures c.if-wrong_rows.false)
 
 pub returns : goal.returns
 returns c =
-    let a = c.args in
-    c.judge_list.ensures
-    ∙ ap (λ (x : ℕ). done (verdict a.people a.required.now (list_of x a.pieces a.needed a.marks.now)))
-    (sym (in_order c.wrong_rows.ensures c.if-wrong_rows.false).same-people)
-    ∙ sym (then_verdict _ _ (clear _ c.check.ensures c.in_default.is).then (sym c.wrong_rows.ensures ∙ c.if-wrong_rows.false))
+    ap done c.judge_list.ensures
+    ∙ sym (then_verdict _ _ (clear _ c.check.ensures c.in_ok-check.was).then (sym c.wrong_rows.ensures ∙ c.if-wrong_rows.false))

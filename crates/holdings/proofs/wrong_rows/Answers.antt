@@ -2,37 +2,31 @@
 -- Assumes nothing.
 use mathlib.Core.Path.{sym, ap, ◌∙◌}
 use native.Mathlib.Omega.{arith}
-use Rattle.lists.specs.Places.{found}
-use Rattle.holdings.specs.Holdings.{list_of}
+use Rattle.std.specs.Prelude.{is_some, ltb}
+use Rattle.lists.proofs.PositionLaws.{found_position}
+use Rattle.holdings.specs.Holdings.{list_in}
 use Rattle.holdings.proofs.HolderLaws.{marks-few}
 use Rattle.holdings.proofs.RowLaws.{only-marks, not_order}
 use Rattle.holdings.proofs.wrong_rows.Goals as goal
 
-pub returns-then-list_people-people : goal.returns-then-list_people-people
-returns-then-list_people-people c = sym (not_order _ _ (λ h. c.if-list_people-people.true h.same-people))
+pub returns-then-list-people : goal.returns-then-list-people
+returns-then-list-people c = sym (not_order _ _ (λ h. c.if-list-people.true h.same-people))
 
-pub returns-then-pieces-eq0 : goal.returns-then-pieces-eq0
-returns-then-pieces-eq0 c = sym (not_order _ _ (λ h. omega (arith, h.some-piece, c.if-pieces-eq0.true)))
+pub returns-then-list-eq0 : goal.returns-then-list-eq0
+returns-then-list-eq0 c = sym (not_order _ _ (λ h. omega (arith, h.some-piece, h.few-pieces, c.then-list-eq0.either)))
 
-pub returns-then-pieces-gt70 : goal.returns-then-pieces-gt70
-returns-then-pieces-gt70 c = sym (not_order _ _ (λ h. omega (arith, h.few-pieces, c.if-pieces-gt70.true)))
-
-pub returns-then-needed-eq0 : goal.returns-then-needed-eq0
-returns-then-needed-eq0 c = sym (not_order _ _ (λ h. omega (arith, h.some-needed, c.if-needed-eq0.true)))
-
-pub returns-then-pieces-needed : goal.returns-then-pieces-needed
-returns-then-pieces-needed c = sym (not_order _ _ (λ h. omega (arith, h.few-needed, c.if-pieces-needed.true)))
+pub returns-then-list-eq0-2 : goal.returns-then-list-eq0-2
+returns-then-list-eq0-2 c = sym (not_order _ _ (λ h. omega (arith, h.some-needed, h.few-needed, c.then-list-eq0-2.either)))
 
 pub overflow_mul-people : goal.overflow_mul-people
-overflow_mul-people c =
-    omega (arith, marks-few _ _ c.requires c.if-pieces-gt70.false)
+overflow_mul-people c = omega (arith, marks-few _ _ c.requires c.if-list-gt70.false)
 
-pub returns-then-marks-people : goal.returns-then-marks-people
-returns-then-marks-people c = sym (not_order _ _ (λ h. c.if-marks-people.true h.full))
+pub returns-then-list-people-2 : goal.returns-then-list-people-2
+returns-then-list-people-2 c = sym (not_order _ _ (λ h. c.if-list-people-2.true h.full))
 
 pub returns : goal.returns
 returns c =
     let a = c.args in
-    ap found c.first_bad.ensures
-    ∙ sym (only-marks a.people (list_of a.list_people a.pieces a.needed a.marks.now) c.if-list_people-people.false c.if-pieces-eq0.false
-    c.if-pieces-gt70.false c.if-needed-eq0.false c.if-pieces-needed.false c.if-marks-people.false)
+    c.is_some.ensures ∙ ap is_some c.first_bad.ensures ∙ sym (found_position (ltb 1) a.list.marks.now)
+    ∙ sym (only-marks a.people (list_in a.list) c.if-list-people.false c.if-list-eq0.false
+    c.if-list-gt70.false c.if-list-eq0-2.false c.if-list.false c.if-list-people-2.false)

@@ -3,27 +3,23 @@ use mathlib.Core.Path.{◌≡◌, ap, ◌∙◌}
 use mathlib.Core.List.{List}
 use Prim.Native.Nat.{ℕ}
 use lib.ListN.{length}
-use Rattle.planning.specs.Policy.{Policy, policy_of}
+use Rattle.planning.specs.Given.{lists_of}
 use Rattle.dealing.specs.Deal.{deal_from}
 use Rattle.dealing.specs.Dealt.{dealing, dealt_into}
-use Rattle.key.proofs.KeyLaws.{ten-words, no_words_lem}
+use Rattle.key.specs.Dealt.{key_secret}
+use Rattle.key.proofs.KeyLaws.{packed-dealt, none-dealt}
 use Rattle.key.proofs.deal_key.Goals as goal
-
--- what is answered, and what is left, where the secrets are the same words
-says : (p : Policy) (number year holder room : ℕ) (random : List ℕ) (s t : List ℕ) → s ≡ t
-    → dealing (deal_from p number year s random) holder room ≡ dealing (deal_from p number year t random) holder room
-says p number year holder room random s t e = ap (λ (x : List ℕ). dealing (deal_from p number year x random) holder room) e
-
-leaves : (p : Policy) (number year holder : ℕ) (random out : List ℕ) (s t : List ℕ) → s ≡ t
-    → dealt_into (deal_from p number year s random) holder out ≡ dealt_into (deal_from p number year t random) holder out
-leaves p number year holder random out s t e = ap (λ (x : List ℕ). dealt_into (deal_from p number year x random) holder out) e
-
-pub returns-then-key-ne16 : goal.returns-then-key-ne16
-returns-then-key-ne16 c =
-    let e = no_words_lem c.args.key.now c.pack-packed.result.words c.if-key-ne16.true in
-    record { says = c.deal.ensures.says ∙ says _ _ _ _ _ _ _ _ e; leaves = c.deal.ensures.leaves ∙ leaves _ _ _ _ _ _ _ _ e }
+use Rattle.key.proofs.deal_key.Goals.{in-Ok, in-Err}
 
 pub returns : goal.returns
 returns c =
-    let e = c.pack-packed.ensures.words ∙ ten-words c.args.key.now c.if-key-ne16.false in
-    record { says = c.deal-2.ensures.says ∙ says _ _ _ _ _ _ _ _ e; leaves = c.deal-2.ensures.leaves ∙ leaves _ _ _ _ _ _ _ _ e }
+    let a = c.args in
+    let key : List ℕ = a.key.now in
+    let e : c.match-packed.secret.now ≡ key_secret key = elim c.match-packed.branch [
+      | in-Ok w ↦ rw w.secret-is (packed-dealt key c.pack-packed.ensures.says c.pack-packed.ensures.words w.in-Ok.is)
+      | in-Err w ↦ rw w.secret-is (none-dealt key c.pack-packed.ensures.says w.in-Err.is)
+    ] in
+    record {
+      says = c.deal.ensures.says ∙ ap (λ (s : List ℕ). dealing (deal_from (lists_of a.policy) a.number a.year s a.random.now) a.holder (length a.out.now)) e;
+      leaves = c.deal.ensures.leaves ∙ ap (λ (s : List ℕ). dealt_into (deal_from (lists_of a.policy) a.number a.year s a.random.now) a.holder a.out.now) e;
+    }

@@ -7,31 +7,37 @@ use Rattle.answer.specs.Outcome.{outcome, done, refused, number}
 use Rattle.packing.specs.Key.{unpacking, unpacked_into}
 use Rattle.joining.specs.Joined.{joining, joined_into}
 use Rattle.joining.proofs.SixteenLaws.{secret-front, secret-fits, secret-counts}
+use Rattle.answer.proofs.PassedOn.{passed_on}
 use Rattle.key.proofs.KeyLaws.{key_unpacks, key_refused, key_left, left-unpacked}
 use Rattle.key.proofs.join_key.Goals as goal
 
 pub slice_bounds-words-end : goal.slice_bounds-words-end
-slice_bounds-words-end c = let pile : List ℕ = c.args.pile.now in
-    let joins : joining (pile) 16 ≡ done c.in-Done.w = sym c.join.ensures.says ∙ ap outcome c.in-Done.is in
-    let lent : c.join.new.out ≡ joined_into (pile) (replicate 16 0) = c.join.ensures.leaves in
-    secret-fits (pile) c.in-Done.w _ (joins) (lent)
+slice_bounds-words-end c =
+    let says = sym c.join.ensures.says ∙ ap outcome c.in_ok-w.was in
+    secret-fits c.args.pile.now _ _ says c.join.ensures.leaves
 
 pub slice_bounds-unpack-end : goal.slice_bounds-unpack-end
-slice_bounds-unpack-end c = let pile : List ℕ = c.args.pile.now in
-    let joins : joining (pile) 16 ≡ done c.in-Done.w = sym c.join.ensures.says ∙ ap outcome c.in-Done.is in
-    let lent : c.join.new.out ≡ joined_into (pile) (replicate 16 0) = c.join.ensures.leaves in
-    secret-counts (pile) c.in-Done.w _ (joins) (lent)
+slice_bounds-unpack-end c =
+    let says = sym c.join.ensures.says ∙ ap outcome c.in_ok-w.was in
+    secret-counts c.args.pile.now _ _ says c.join.ensures.leaves
 
-pub returns-in-Refused : goal.returns-in-Refused
-returns-in-Refused c =
-    let r = c.in-Refused.r in
-    let e = key_refused c.args.pile.now (length c.args.out.now) _ _ _ (sym c.join.ensures.says ∙ ap outcome c.in-Refused.is) in
-    record { says = sym e; leaves = sym (key_left c.args.pile.now c.args.out.now (refused (number r.kind) r.a r.b) e) }
+pub returns-in_err-w : goal.returns-in_err-w
+returns-in_err-w c =
+    let r = c.in_err-w.field-0.0 in
+    let e = key_refused c.args.pile.now (length c.args.out.now) _ _ _ (sym c.join.ensures.says ∙ ap outcome c.in_err-w.was) in
+    record {
+      says = ap outcome (passed_on c.from_residual.ensures.1) ∙ sym e;
+      leaves = sym (key_left c.args.pile.now c.args.out.now (refused (number r.kind) r.a r.b) e);
+    }
 
-pub returns-in-Done : goal.returns-in-Done
-returns-in-Done c = let pile : List ℕ = c.args.pile.now in
-    let joins : joining (pile) 16 ≡ done c.in-Done.w = sym c.join.ensures.says ∙ ap outcome c.in-Done.is in
-    let lent : c.join.new.out ≡ joined_into (pile) (replicate 16 0) = c.join.ensures.leaves in
+pub returns : goal.returns
+returns c =
+    let pile : List ℕ = c.args.pile.now in
+    let joins = sym c.join.ensures.says ∙ ap outcome c.in_ok-w.was in
     let out = c.args.out.now in
-    let w = c.in-Done.w in
-    let front = secret-front (pile) w _ (joins) (lent) in record { says = c.unpack.ensures.says ∙ ap (λ (s : List ℕ). unpacking s (length out)) front ∙ sym (key_unpacks (pile) w (length out) (joins)); leaves = c.unpack.ensures.leaves ∙ ap (λ (s : List ℕ). unpacked_into s out) front ∙ sym (left-unpacked (pile) w out (joins)) }
+    let w = c.in_ok-w.w in
+    let front = secret-front pile w _ joins c.join.ensures.leaves in
+    record {
+      says = c.unpack.ensures.says ∙ ap (λ (s : List ℕ). unpacking s (length out)) front ∙ sym (key_unpacks pile w (length out) joins);
+      leaves = c.unpack.ensures.leaves ∙ ap (λ (s : List ℕ). unpacked_into s out) front ∙ sym (left-unpacked pile w out joins);
+    }

@@ -1,56 +1,55 @@
--- `listing::listing` meets its contract: what is printed for the text that was read.
+-- `listing::listing` meets its contract: what is printed for the text that was read, and it fits.
 -- Assumes nothing.
-use mathlib.Core.Path.{◌≡◌, sym, subst}
+use mathlib.Core.Path.{◌≡◌, ap, ◌∙◌}
+use mathlib.Core.Bool.{not}
 use mathlib.Core.List.{List}
 use native.Mathlib.Omega.{arith}
 use Prim.Native.Nat.{ℕ, ◌≤◌, ◌<◌}
 use lib.ListN.{length}
-use lib.Seq.{length-take-le}
 use Rattle.answer.specs.declared.Refusal.{Refusal}
 use Rattle.answer.specs.Outcome.{number}
-use Rattle.print.specs.Written.{Prints}
+use Rattle.planning.specs.Groups.{marked}
+use Rattle.planning.specs.declared.table.Plan.{Plan}
+use Rattle.print.specs.declared.page.Page.{Page}
 use Rattle.print.specs.Inner.{Room}
 use Rattle.print.specs.Lines.{refused_line}
-use Rattle.print.proofs.WrittenLaws.{printed}
+use Rattle.print.proofs.WrittenLaws.{room_in_front, retold, printed}
 use Rattle.print.proofs.LineLaws.{refused-few}
-use Rattle.policy.specs.declared.Sets.{Sets}
-use Rattle.policy.specs.Policy.{Keeps}
-use Rattle.listing.specs.Listing.{listed}
-use Rattle.listing.proofs.PlanLaws.{kept-few, kept-length, read_done, read_refused}
+use Rattle.listing.specs.Listing.{listing_by}
+use Rattle.listing.proofs.ListingLaws.{listing-short}
 use Rattle.listing.proofs.listing.Goals as goal
+use Rattle.listing.proofs.listing.Goals.{in-Ok, in-Err}
 
-fits_in : {sets : List ℕ} {kept : Sets} → Keeps sets kept → kept.count ≤ length kept.sets
-fits_in k = omega (arith, kept-few k, kept-length k)
+-- the page stands at the front of a buffer of 4,113 bytes
+module _ (page : Page) (z : page.at ≡ 0) (lent : List ℕ) (e : page.out.now ≡ lent) (l : length lent ≡ 4113) where
+  listing_fits : (people : ℕ) (plan : Plan) → people ≤ 8 → plan.pieces ≤ 70
+      → Room (listing_by (marked plan.rows) (λ i j. not (marked plan.rows j i)) people plan.pieces) page
+  listing_fits people plan p q =
+      room_in_front _ z (omega (arith, listing-short (marked plan.rows) (λ i j. not (marked plan.rows j i)) people plan.pieces p q, ap length e ∙ l))
 
-refusal_fits : (r : Refusal) (out : List ℕ) → r.a < 18446744073709551616 → r.b < 18446744073709551616 → length out ≡ 4113
-    → Room (refused_line (number r.kind) r.a r.b) 0 out
-refusal_fits r out a b g = record { room = omega (arith, refused-few r.kind r.a r.b a b) }
+  refusal_fits : (r : Refusal) → r.a < 18446744073709551616 → r.b < 18446744073709551616 → Room (refused_line (number r.kind) r.a r.b) page
+  refusal_fits r p q = room_in_front _ z (omega (arith, refused-few r.kind r.a r.b p q, ap length e ∙ l))
 
-pub slice_bounds-required_sets-end : goal.slice_bounds-required_sets-end
-slice_bounds-required_sets-end c = fits_in c.read_policy-read.ensures.required
-
-pub slice_bounds-list_plan-end : goal.slice_bounds-list_plan-end
-slice_bounds-list_plan-end c = sym (length-take-le _ _ (fits_in c.read_policy-read.ensures.required))
-
-pub slice_bounds-forbidden_sets-end : goal.slice_bounds-forbidden_sets-end
-slice_bounds-forbidden_sets-end c = fits_in c.read_policy-read.ensures.forbidden
-
-pub slice_bounds-list_plan-end-in-Done : goal.slice_bounds-list_plan-end-in-Done
-slice_bounds-list_plan-end-in-Done c = sym (length-take-le _ _ (fits_in c.read_policy-read.ensures.forbidden))
+pub write_listing-requires-clause-room : goal.write_listing-requires-clause-room
+write_listing-requires-clause-room c =
+    let t = c.in-Ok.planned in
+    listing_fits c.new-page.result c.new-page.ensures.front c.args.out.now c.new-page.ensures.bytes c.told-out t.people t.plan c.in-Ok.ensures.0 c.in-Ok.ensures.1
 
 pub write_refusal-requires : goal.write_refusal-requires
-write_refusal-requires c = refusal_fits c.in-Refused.refusal c.args.out.now (omega arith) (omega arith) (omega arith)
+write_refusal-requires c =
+    refusal_fits c.new-page.result c.new-page.ensures.front c.args.out.now c.new-page.ensures.bytes c.told-out c.in-Err.refusal (omega arith) (omega arith)
 
-pub returns-in-Done : goal.returns-in-Done
-unfolding listed
-returns-in-Done c =
-    subst (λ (l : List ℕ). Prints l c.args.out.now c.list_plan.new.out c.list_plan.result)
-    (sym (read_done c.in-Done.people c.read_policy-read.ensures c.in-Done.is)) c.list_plan.ensures
-
-pub returns-in-Refused : goal.returns-in-Refused
-unfolding listed
-returns-in-Refused c =
-    let r = c.in-Refused.refusal in
-    subst (λ (l : List ℕ). Prints l c.args.out.now c.write_refusal.new.out c.write_refusal.result)
-    (sym (read_refused r c.read_policy-read.ensures c.in-Refused.is))
-    (printed c.write_refusal.ensures (refusal_fits r c.args.out.now (omega arith) (omega arith) (omega arith)))
+pub returns : goal.returns
+returns c =
+    let page = c.new-page in
+    elim c.match-plan_text.branch [
+      | in-Ok w ↦
+          let t = w.in-Ok.planned in
+          rw w.page-is
+          (printed page.ensures.bytes page.ensures.front (retold w.in-Ok.ensures.2 w.write_listing.ensures.written)
+          (rw w.in-Ok.ensures.2 at (listing_fits page.result page.ensures.front c.args.out.now page.ensures.bytes c.told-out t.people t.plan w.in-Ok.ensures.0 w.in-Ok.ensures.1)))
+      | in-Err w ↦
+          rw w.page-is
+          (printed page.ensures.bytes page.ensures.front (retold w.in-Err.ensures w.write_refusal.ensures.written)
+          (rw w.in-Err.ensures at (refusal_fits page.result page.ensures.front c.args.out.now page.ensures.bytes c.told-out w.in-Err.refusal (omega arith) (omega arith))))
+    ]

@@ -1,45 +1,38 @@
--- `listing::write_holders` meets its contract: the lines passed are written.
+-- `listing::write_holders` meets its contract: the lines so far are written.
 -- Assumes nothing.
-use mathlib.Core.Path.{◌≡◌, refl, ◌∙◌}
+use mathlib.Core.Path.{refl, sym, subst, ◌∙◌}
 use mathlib.Core.Bool.{not}
 use mathlib.Core.List.{List}
 use native.Mathlib.Omega.{arith}
 use Prim.Native.Nat.{ℕ, ◌+◌}
 use Rattle.planning.specs.Groups.{marked}
+use Rattle.print.specs.Inner.{Room}
 use Rattle.print.specs.Lines.{rising}
-use Rattle.print.proofs.WrittenLaws.{nothing, turn_room, turn_written}
-use Rattle.listing.specs.Listing.{holder_line}
+use Rattle.print.proofs.WrittenLaws.{nothing, retold, turn_room, turn_written}
 use Rattle.print.proofs.LineLaws.{rising_grows}
+use Rattle.listing.specs.Listing.{holder_line}
+use Rattle.listing.proofs.ListingLaws.{column_line}
 use Rattle.listing.proofs.write_holders.Goals as goal
 
 pub loop-i-init : goal.loop-i-init
 unfolding rising
-loop-i-init c = (omega arith, nothing _ _, refl)
+loop-i-init c = (refl, nothing _)
 
-pub write_holder-p-requires : goal.write_holder-p-requires
-write_holder-p-requires c =
-    let line : ℕ → List ℕ = λ n. holder_line (λ m. not (marked c.args.rows.now m n)) c.args.k n in
-    let l = c.loop-i in (
-      c.requires.0,
-      omega arith,
-      omega (arith, c.requires.1),
-      turn_room (rising line) (λ n. line (n + 1)) (rising_grows line) l.i c.args.people c.loop-i-test.true c.requires.2 l.invariant.1,
-    )
+pub write_line-requires : goal.write_line-requires
+write_line-requires c =
+    let line : ℕ → List ℕ = λ n. holder_line (λ m. not (marked c.args.plan.now.rows m n)) c.args.plan.now.pieces n in
+    let l = c.loop-i in
+    subst (λ (bytes : List ℕ). Room bytes l.page)
+    (sym (column_line c.args.plan.now.rows c.unmarked-has.result c.args.plan.now.pieces l.i (omega arith) (omega (arith, c.requires.few)) c.unmarked-has.ensures))
+    (turn_room (rising line) (λ n. line (n + 1)) (rising_grows line) l.i c.args.people c.loop-i-test.true c.requires.room l.invariant.1)
 
 pub loop-i-preserved : goal.loop-i-preserved
 loop-i-preserved c =
-    let line : ℕ → List ℕ = λ n. holder_line (λ m. not (marked c.args.rows.now m n)) c.args.k n in
+    let line : ℕ → List ℕ = λ n. holder_line (λ m. not (marked c.args.plan.now.rows m n)) c.args.plan.now.pieces n in
     let l = c.loop-i in (
-      omega arith,
-      turn_written (rising line) (λ n. line (n + 1)) (rising_grows line) l.i c.args.people c.loop-i-test.true c.requires.2 l.invariant.1
-          c.write_holder-p.ensures,
-      c.write_holder-p.auto.out ∙ l.invariant.2,
+      c.write_line.ensures.same_buffer ∙ l.invariant.0,
+      turn_written (rising line) (λ n. line (n + 1)) (rising_grows line) l.i c.args.people c.loop-i-test.true c.requires.room l.invariant.1
+          (retold
+          (column_line c.args.plan.now.rows c.unmarked-has.result c.args.plan.now.pieces l.i (omega arith) (omega (arith, c.requires.few)) c.unmarked-has.ensures)
+          c.write_line.ensures.written),
     )
-
-pub shape_of-out : goal.shape_of-out
-shape_of-out c = c.loop-i.invariant.2
-
-pub returns : goal.returns
-returns c =
-    let e : c.loop-i.i ≡ c.args.people = omega arith in
-    rw e at c.loop-i.invariant.1

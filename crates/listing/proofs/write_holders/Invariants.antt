@@ -1,9 +1,7 @@
--- `listing::write_holders` meets its contract: the lines passed are written.
+-- `listing::write_holders` meets its contract: the lines so far are written.
 -- Assumes nothing.
 use mathlib.Core.Path.{◌≡◌}
 use mathlib.Core.Bool.{not}
-use Prim.Native.Nat.{◌-◌, ◌≤◌}
-use lib.ListN.{length}
 use Rattle.planning.specs.Groups.{marked}
 use Rattle.print.specs.Inner.{Writes}
 use Rattle.print.specs.Lines.{rising}
@@ -11,7 +9,6 @@ use Rattle.listing.specs.Listing.{holder_line}
 use Rattle.listing.proofs.write_holders.Given as goal
 
 abbrev pub invariant-loop-i : goal.invariant-loop-i
-invariant-loop-i l = (l.i ≤ l.people) × Writes (rising (λ n. holder_line (λ m. not (marked l.rows m n)) l.k n) l.i) l.at l.initial.out l.out l.p × (length l.out ≡ length l.initial.out)
-
-abbrev pub decreases-loop-i : goal.decreases-loop-i
-decreases-loop-i l = l.people - l.i
+invariant-loop-i l =
+    (l.page.out.ghost_name ≡ l.initial.page.out.ghost_name)
+    × Writes (rising (λ i. holder_line (λ j. not (marked l.plan.rows j i)) l.plan.pieces i) l.i) l.initial.page l.page

@@ -1,8 +1,6 @@
--- `listing::write_pieces` meets its contract: the lines passed are written.
+-- `listing::write_pieces` meets its contract: the lines so far are written.
 -- Assumes nothing.
 use mathlib.Core.Path.{◌≡◌}
-use Prim.Native.Nat.{◌-◌, ◌≤◌}
-use lib.ListN.{length}
 use Rattle.planning.specs.Groups.{marked}
 use Rattle.print.specs.Inner.{Writes}
 use Rattle.print.specs.Lines.{rising}
@@ -10,7 +8,6 @@ use Rattle.listing.specs.Listing.{piece_line}
 use Rattle.listing.proofs.write_pieces.Given as goal
 
 abbrev pub invariant-loop-j : goal.invariant-loop-j
-invariant-loop-j l = (l.j ≤ l.k) × Writes (rising (λ n. piece_line (marked l.rows n) l.people n) l.j) l.at l.initial.out l.out l.p × (length l.out ≡ length l.initial.out)
-
-abbrev pub decreases-loop-j : goal.decreases-loop-j
-decreases-loop-j l = l.k - l.j
+invariant-loop-j l =
+    (l.page.out.ghost_name ≡ l.initial.page.out.ghost_name)
+    × Writes (rising (λ j. piece_line (marked l.plan.rows j) l.people j) l.j) l.initial.page l.page

@@ -1,53 +1,50 @@
 -- `packing::unpack` meets its contract: at each return the tests that led there say which line speaks. Assumes nothing.
 use mathlib.Core.Path.{◌≡◌, sym, ap, ◌∙◌}
-use mathlib.Core.List.{List}
-use Prim.Native.Nat.{ℕ}
 use lib.ListN.{length}
-use Rattle.answer.specs.Outcome.{Outcome, done, refused}
-use Rattle.lists.specs.Over.{over}
-use Rattle.packing.specs.Key.{KeyWords, first_wrong}
-use Rattle.packing.proofs.PackLaws.{unpacked_key}
-use Rattle.packing.proofs.SayLaws.{no_wrong, says-few, says_wrong, says-room, says-done, lent_as}
+use lib.Seq.{length-take-le}
+use Rattle.packing.proofs.DigitLaws.{digits-count}
+use Rattle.answer.specs.Outcome.{outcome}
+use Rattle.answer.proofs.PassedOn.{passed_on}
+use Rattle.packing.specs.Digits.{digits}
+use Rattle.packing.specs.Key.{unpacked}
+use Rattle.packing.proofs.ByteLaws.{bytes-digits}
+use Rattle.packing.proofs.SayLaws.{says-refused, right-words, says-room, says-done, lent-refused, lent-written}
 use Rattle.packing.proofs.unpack.Goals as goal
 
--- NOTKEY at this word
-abbrev wrong_at_lem : ℕ → Outcome ℕ
-wrong_at_lem x = refused 23 x 0
+pub returns-in_err-check_words-clause-says : goal.returns-in_err-check_words-clause-says
+returns-in_err-check_words-clause-says c =
+    ap outcome (passed_on c.from_residual.ensures.1)
+    ∙ sym (says-refused c.args.words.now (length c.args.out.now) c.check_words.ensures c.in_err-check_words.was)
 
-pub returns-then-words-ne10 : goal.returns-then-words-ne10
-returns-then-words-ne10 c = let words : List ℕ = c.args.words.now in
-    let out : List ℕ = c.args.out.now in
-    let e = says-few (words) (length (out)) c.if-words-ne10.true in
-    record { says = c.refuse.ensures ∙ sym e; leaves = sym (lent_as (words) (out) (refused 23 0 0) e) }
+pub returns-in_err-check_words-clause-leaves : goal.returns-in_err-check_words-clause-leaves
+returns-in_err-check_words-clause-leaves c =
+    lent-refused _ _ _ _ _ (says-refused c.args.words.now (length c.args.out.now) c.check_words.ensures c.in_err-check_words.was)
 
-pub returns-then-wrong-ne0 : goal.returns-then-wrong-ne0
-returns-then-wrong-ne0 c = let words : List ℕ = c.args.words.now in
-    let out : List ℕ = c.args.out.now in
-    let w = c.first_wrong-wrong.ensures in
-    let e = says_wrong (words) (length (out)) c.if-words-ne10.false (λ z. c.if-wrong-ne0.true (w ∙ z)) in
-    record { says = c.refuse-then-wrong-ne0.ensures ∙ ap wrong_at_lem w ∙ sym e; leaves = sym (lent_as (words) (out) (refused 23 (first_wrong (words)) 0) e) }
+pub returns-then-out-lt16-clause-says : goal.returns-then-out-lt16-clause-says
+returns-then-out-lt16-clause-says c =
+    ap outcome c.refuse.ensures ∙ sym (says-room c.args.words.now (length c.args.out.now) c.check_words.ensures c.in_ok-check_words.was c.if-out-lt16.true)
 
-pub returns-then-out-lt16 : goal.returns-then-out-lt16
-returns-then-out-lt16 c = let words : List ℕ = c.args.words.now in
-    let out : List ℕ = c.args.out.now in
-    let none_wrong : first_wrong (words) ≡ 0 = sym c.first_wrong-wrong.ensures ∙ c.if-wrong-ne0.false in
-    let e = says-room (words) (length (out)) c.if-words-ne10.false (none_wrong) c.if-out-lt16.true in
-    record { says = c.refuse-then-out-lt16.ensures ∙ sym e; leaves = sym (lent_as (words) (out) (refused 12 16 0) e) }
+pub returns-then-out-lt16-clause-leaves : goal.returns-then-out-lt16-clause-leaves
+returns-then-out-lt16-clause-leaves c =
+    lent-refused _ _ _ _ _ (says-room c.args.words.now (length c.args.out.now) c.check_words.ensures c.in_ok-check_words.was c.if-out-lt16.true)
 
-pub bytes_of-bytes-requires : goal.bytes_of-bytes-requires
-bytes_of-bytes-requires c = let words : List ℕ = c.args.words.now in
-    let none_wrong : first_wrong (words) ≡ 0 = sym c.first_wrong-wrong.ensures ∙ c.if-wrong-ne0.false in
-    let key_words : KeyWords (words) = no_wrong _ c.if-words-ne10.false (none_wrong) in
-    key_words
+pub number_of_words-requires : goal.number_of_words-requires
+number_of_words-requires c = right-words c.args.words.now (length c.args.out.now) c.check_words.ensures c.in_ok-check_words.was
 
-pub put-requires : goal.put-requires
-put-requires c = let words : List ℕ = c.args.words.now in
-    let none_wrong : first_wrong (words) ≡ 0 = sym c.first_wrong-wrong.ensures ∙ c.if-wrong-ne0.false in
-    let key_words : KeyWords (words) = no_wrong _ c.if-words-ne10.false (none_wrong) in
-    (ap length c.bytes_of-bytes.ensures ∙ (unpacked_key (words) (key_words)).sixteen, c.if-out-lt16.false)
+pub copy_from_slice-requires : goal.copy_from_slice-requires
+copy_from_slice-requires c =
+    length-take-le 16 c.args.out.now c.if-out-lt16.false ∙ sym (ap length (c.to_be_bytes-bytes.ensures ∙ bytes-digits c.number_of_words.result) ∙ digits-count 256 16 c.number_of_words.result)
 
-pub returns : goal.returns
-returns c = let words : List ℕ = c.args.words.now in
-    let out : List ℕ = c.args.out.now in
-    let none_wrong : first_wrong (words) ≡ 0 = sym c.first_wrong-wrong.ensures ∙ c.if-wrong-ne0.false in
-    let e = says-done (words) (length (out)) c.if-words-ne10.false (none_wrong) c.if-out-lt16.false in record { says = sym e; leaves = c.put.ensures ∙ ap (λ (x : List ℕ). over x (out)) c.bytes_of-bytes.ensures ∙ sym (lent_as (words) (out) (done 16) e) }
+pub returns-clause-says : goal.returns-clause-says
+returns-clause-says c =
+    sym (says-done c.args.words.now (length c.args.out.now) c.check_words.ensures c.in_ok-check_words.was c.if-out-lt16.false)
+
+pub returns-clause-leaves : goal.returns-clause-leaves
+unfolding unpacked
+returns-clause-leaves c =
+    let words = c.args.words.now in
+    let out = c.args.out.now in
+    let n = c.number_of_words.result in
+    let e : c.copy_from_slice.new.self ≡ digits 256 16 n = c.copy_from_slice.ensures.after ∙ c.to_be_bytes-bytes.ensures ∙ bytes-digits n in
+    lent-written words out c.copy_from_slice.new.self (e ∙ ap (digits 256 16) c.number_of_words.ensures) (ap length e ∙ digits-count 256 16 n)
+    (says-done words (length out) c.check_words.ensures c.in_ok-check_words.was c.if-out-lt16.false)

@@ -1,27 +1,27 @@
 -- `policy::read_line` meets its contract. Assumes nothing.
-use mathlib.Core.Path.{sym, ap, ◌∙◌}
-use Rattle.policy.specs.Policy.{needs, bars}
-use Rattle.policy.proofs.LinesLaws.{says-need, says-bar, says_neither}
+use Rattle.std.proofs.Common.{rules}
+use mathlib.Core.Path.{◌≡◌, sym, ap, ◌∙◌}
+use lib.ListN.{drop}
+use Rattle.policy.specs.Policy.{need_word, bar_word, needs, bars, members}
+use Rattle.policy.proofs.LinesLaws.{begins_is, says-need, says-bar, says_neither}
 use Rattle.policy.proofs.read_line.Goals as goal
 
-pub returns-in-Number : goal.returns-in-Number
-returns-in-Number c =
-    ap needs (sym c.in-Number.is ∙ c.read_members.ensures) ∙ sym (says-need c.args.line.now (sym c.begins.ensures ∙ c.if-begins.true))
+pub returns-in_err-names : goal.returns-in_err-names
+returns-in_err-names c =
+    let l = c.args.line.now in
+    c.from_residual.ensures
+    ∙ sym (says_neither l (begins_is need_word l ∙ c.in_default.ensures.cases) (begins_is bar_word l ∙ c.in_err-names.ensures.cases))
 
-pub returns-in-Nothing : goal.returns-in-Nothing
-returns-in-Nothing c =
-    ap needs (sym c.in-Nothing.is ∙ c.read_members.ensures) ∙ sym (says-need c.args.line.now (sym c.begins.ensures ∙ c.if-begins.true))
+pub returns-in-Some : goal.returns-in-Some
+returns-in-Some c =
+    let l = c.args.line.now in
+    let named : c.read_members.result ≡ members 48 0 (drop 4 l) = c.read_members.ensures ∙ ap (members 48 0) c.in-Some.ensures.cases.1 in
+    let said : c.map.result ≡ needs c.read_members.result = search rules in
+    said ∙ ap needs named ∙ sym (says-need l (begins_is need_word l ∙ c.in-Some.ensures.cases.0))
 
-pub returns-in-Number-read_members : goal.returns-in-Number-read_members
-returns-in-Number-read_members c =
-    ap bars (sym c.in-Number-read_members.is ∙ c.read_members-then-begins-2.ensures)
-    ∙ sym (says-bar c.args.line.now (sym c.begins.ensures ∙ c.if-begins.false) (sym c.begins-else-begins.ensures ∙ c.if-begins-2.true))
-
-pub returns-in-Nothing-read_members : goal.returns-in-Nothing-read_members
-returns-in-Nothing-read_members c =
-    ap bars (sym c.in-Nothing-read_members.is ∙ c.read_members-then-begins-2.ensures)
-    ∙ sym (says-bar c.args.line.now (sym c.begins.ensures ∙ c.if-begins.false) (sym c.begins-else-begins.ensures ∙ c.if-begins-2.true))
-
-pub returns-else-begins-2 : goal.returns-else-begins-2
-returns-else-begins-2 c =
-    sym (says_neither c.args.line.now (sym c.begins.ensures ∙ c.if-begins.false) (sym c.begins-else-begins.ensures ∙ c.if-begins-2.false))
+pub returns-in_ok-names : goal.returns-in_ok-names
+returns-in_ok-names c =
+    let l = c.args.line.now in
+    let named : c.read_members-in_default.result ≡ members 48 0 (drop 3 l) = c.read_members-in_default.ensures ∙ ap (members 48 0) c.in_ok-names.ensures.cases.1 in
+    let said : c.map-in_default.result ≡ bars c.read_members-in_default.result = search rules in
+    said ∙ ap bars named ∙ sym (says-bar l (begins_is need_word l ∙ c.in_default.ensures.cases) (begins_is bar_word l ∙ c.in_ok-names.ensures.cases.0))

@@ -1,36 +1,33 @@
 -- `salvage::mend_pile` meets its contract: the first a blocks are mended, their rebuilt words counted and listed. Assumes nothing.
-use mathlib.Core.Path.{refl}
+use mathlib.Core.Path.{refl, sym}
 use Prim.Native.Nat.{◌≤◌}
 use native.Mathlib.Omega.{arith}
-use Rattle.salvage.proofs.LoopLaws.{mend_start, mend_on, mend_end, word_low}
+use Rattle.lists.proofs.FirstLaws.{placed_none}
+use Rattle.pile.proofs.PileLaws.{placed_is}
+use Rattle.salvage.proofs.LoopLaws.{mend_start, mend_none, mend_one, mend_end, word_low}
 use Rattle.salvage.proofs.mend_pile.Goals as goal
+use Rattle.salvage.proofs.mend_pile.Goals.{in-Some, in_default}
 
 pub loop-a-init : goal.loop-a-init
 loop-a-init c = mend_start _ _ _ refl c.requires
 
-pub overflow_mul-a : goal.overflow_mul-a
-overflow_mul-a c = omega (arith, c.loop-a.invariant.whole)
-
-pub mend_at-word-requires : goal.mend_at-word-requires
-mend_at-word-requires c = let i = c.loop-a.invariant in omega (arith, i.whole, i.len)
-
-pub overflow_cast-a : goal.overflow_cast-a
-overflow_cast-a c = omega (arith, c.loop-a.invariant.most)
-
-pub overflow_cast-word : goal.overflow_cast-word
-overflow_cast-word c = let low : c.mend_at-word.result ≤ 256 =
-    word_low c.loop-a.invariant c.loop-a-test.true _ c.mend_at-word.ensures.0 _ c.mend_at-word.ensures.1 (omega arith) in
+pub overflow_cast-list-in-Some : goal.overflow_cast-list-in-Some
+overflow_cast-list-in-Some c =
+    let is = placed_is _ c.mend_at.ensures.0 c.in-Some.is in
+    let low : c.in-Some.word ≤ 256 = word_low c.loop-a.invariant c.loop-a-test.true _ (sym is.0) _ c.mend_at.ensures.1 (omega arith) in
     omega (arith, low)
-
-pub note-count-requires : goal.note-count-requires
-note-count-requires c =
-    let i = c.loop-a.invariant in
-    omega (arith, i.few, i.len_list, i.room)
 
 pub loop-a-preserved : goal.loop-a-preserved
 loop-a-preserved c =
-    mend_on c.loop-a.invariant c.loop-a-test.true _ c.mend_at-word.ensures.0 _ c.mend_at-word.ensures.1
-    (omega arith) _ c.note-count.ensures.0 _ c.note-count.ensures.1 (omega arith)
+    let l = c.loop-a.invariant in
+    let m = c.mend_at.ensures in
+    elim c.match-mend_at.branch [
+      | in-Some w ↦
+          let is = placed_is _ m.0 w.in-Some.is in
+          rw (w.list-is, w.count-is) (mend_one l c.loop-a-test.true _ (sym is.0) _ m.1 (omega arith) (λ z. omega (arith, is.1, z)))
+      | in_default w ↦
+          rw (w.list-is, w.count-is) (mend_none l c.loop-a-test.true _ (sym (placed_none _ m.0 w.in_default.is)) _ m.1 (omega arith) refl)
+    ]
 
 pub returns : goal.returns
-returns c = mend_end c.loop-a.invariant c.loop-a-test.false
+returns c = mend_end c.loop-a.invariant (omega arith)

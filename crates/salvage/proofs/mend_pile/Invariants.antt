@@ -1,10 +1,6 @@
 -- `salvage::mend_pile` meets its contract: the first a blocks are mended, their rebuilt words counted and listed. Assumes nothing.
-use Prim.Native.Nat.{◌-◌}
 use Rattle.salvage.proofs.LoopLaws.{Mending}
 use Rattle.salvage.proofs.mend_pile.Given as goal
 
 abbrev pub invariant-loop-a : goal.invariant-loop-a
-invariant-loop-a l = Mending l.initial.pile l.initial.list l.pile l.list l.blocks l.count l.a
-
-abbrev pub decreases-loop-a : goal.decreases-loop-a
-decreases-loop-a l = l.blocks - l.a
+invariant-loop-a l = Mending l.initial.pile l.initial.list l.pile l.list l.a-end l.count l.a

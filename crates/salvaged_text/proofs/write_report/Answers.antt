@@ -1,24 +1,18 @@
 -- `salvaged_text::write_report` meets its contract: the first line, then the places.
 -- Assumes nothing.
-use mathlib.Core.List.{List}
-use Prim.Native.Nat.{ℕ}
 use Rattle.print.specs.Lines.{feed, label, rising}
 use Rattle.print.proofs.WrittenLaws.{◌then◌, room-first, room_next}
 use Rattle.salvaged_text.specs.Salvaged.{rebuilt_label, place_line, report}
 use Rattle.salvaged_text.proofs.write_report.Goals as goal
 
-pub write_label-p-requires : goal.write_label-p-requires
+pub write_label-requires : goal.write_label-requires
 unfolding report
-write_label-p-requires c = let first : List ℕ = label rebuilt_label c.args.n feed in
-    let lines : List ℕ = rising (place_line c.args.list.now) c.args.n in
-    room-first (first) (lines) c.requires.1
+write_label-requires c = room-first (label rebuilt_label c.args.n feed) (rising (place_line c.args.list.now) c.args.n) c.requires.room
 
-pub write_places-requires : goal.write_places-requires
+pub write_places-requires-clause-room : goal.write_places-requires-clause-room
 unfolding report
-write_places-requires c = let lines : List ℕ = rising (place_line c.args.list.now) c.args.n in
-    (c.requires.0, room_next (lines) c.write_label-p.ensures c.requires.1)
+write_places-requires-clause-room c = room_next (rising (place_line c.args.list.now) c.args.n) c.write_label.ensures.written c.requires.room
 
-pub returns : goal.returns
+pub returns-clause-written : goal.returns-clause-written
 unfolding report
-returns c =
-    ◌then◌ c.write_label-p.ensures c.write_places.ensures c.requires.1
+returns-clause-written c = ◌then◌ c.write_label.ensures.written c.write_places.ensures.written c.requires.room

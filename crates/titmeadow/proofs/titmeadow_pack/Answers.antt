@@ -2,19 +2,17 @@
 -- Assumes nothing.
 use mathlib.Core.Path.{◌≡◌, sym, ap, ◌∙◌}
 use Prim.Native.Nat.{ℕ}
-use Rattle.answer.specs.Outcome.{Outcome, outcome, done}
-use Rattle.packing.specs.Key.{packed, packing}
+use Rattle.std.specs.Prelude.{IfOk}
+use Rattle.std.proofs.lemmas.Result.{IfOk-at_ok}
+use Rattle.answer.specs.Outcome.{Outcome, outcome_by, done}
+use Rattle.packing.specs.Key.{packed, packing, packed_words}
 use Rattle.packing.proofs.SayLaws.{packs}
-use Rattle.titmeadow.specs.Said.{said, filled}
+use Rattle.titmeadow.specs.Said.{filled}
 use Rattle.titmeadow.proofs.titmeadow_pack.Goals as goal
 
-pub returns-in-Refused : goal.returns-in-Refused
-returns-in-Refused c =
+pub returns-in-Ok-clause-leaves : goal.returns-in-Ok-clause-leaves
+returns-in-Ok-clause-leaves c =
     let a = c.args in
-    let e = sym c.pack-packed.ensures.says ∙ ap outcome c.in-Refused.is in record { says = c.said_of.ensures ∙ sym (ap said e); leaves = sym (ap (λ (o : Outcome ℕ). filled o (packed a.key.now) a.words.now) e) }
-
-pub returns : goal.returns
-returns c =
-    let a = c.args in
-    let r = packs a.key.now _ (sym c.pack-packed.ensures.says ∙ ap outcome c.in_default.is) in
-    let e : packing a.key.now ≡ done 10 = r.0 in record { says = c.said_of-2.ensures ∙ sym (ap said e); leaves = c.pack-packed.ensures.words ∙ r.1 ∙ sym (ap (λ (o : Outcome ℕ). filled o (packed a.key.now) a.words.now) e) }
+    let r = packs a.key.now _ (sym c.pack.ensures.says ∙ ap (outcome_by (λ _. 10)) c.in-Ok.is) in
+    IfOk-at_ok (λ ws. ws ≡ packed_words a.key.now) c.in-Ok.is c.pack.ensures.words
+    ∙ r.1 ∙ sym (ap (λ (o : Outcome ℕ). filled o (packed a.key.now) a.words.now) r.0)

@@ -24,22 +24,22 @@ plan_into-requires c = empty_rows
 
 pub write_groups-requires : goal.write_groups-requires
 write_groups-requires c = let policy : Policy = policy_of c.args.people c.args.required.now c.args.forbidden.now in
-    let accepted : planned (policy) ≡ done c.in-Done.k = sym c.plan_into.ensures.says ∙ ap outcome c.in-Done.is in
-    ((some-piece _ _ (accepted)).2, ap length c.plan_into.ensures.table ∙ rows_seventy _ _ (accepted), omega arith)
+    let accepted : planned policy ≡ done c.in-Ok.k = sym c.plan_into.ensures.says ∙ ap outcome c.in-Ok.is in
+    ((some-piece _ _ accepted).2, ap length c.plan_into.ensures.table ∙ rows_seventy _ _ accepted, omega arith)
 
-pub returns-in-Done : goal.returns-in-Done
-returns-in-Done c = let policy : Policy = policy_of c.args.people c.args.required.now c.args.forbidden.now in
-    let accepted : planned (policy) ≡ done c.in-Done.k = sym c.plan_into.ensures.says ∙ ap outcome c.in-Done.is in
-    let a = c.args in record {
-      says = c.said_of.ensures ∙ sym (ap said (accepted));
-      leaves = c.write_groups.ensures
-          ∙ ap (λ (r : List (List Bool)). over (map number_of (take c.in-Done.k r)) a.groups.now) c.plan_into.ensures.table
-          ∙ ap (λ (l : List ℕ). over l a.groups.now) (rows-numbers _ _ (accepted))
-          ∙ sym (result_writes (planned (policy)) _ (groups a.people a.required.now) a.groups.now (accepted));
-    }
-
-pub returns-in-Refused : goal.returns-in-Refused
-returns-in-Refused c = let policy : Policy = policy_of c.args.people c.args.required.now c.args.forbidden.now in
+pub returns-in-Ok-clause-leaves : goal.returns-in-Ok-clause-leaves
+returns-in-Ok-clause-leaves c =
+    let policy : Policy = policy_of c.args.people c.args.required.now c.args.forbidden.now in
+    let accepted : planned policy ≡ done c.in-Ok.k = sym c.plan_into.ensures.says ∙ ap outcome c.in-Ok.is in
     let a = c.args in
-    let e = sym c.plan_into.ensures.says ∙ ap outcome c.in-Refused.is in
-    record { says = c.said_of-in-Refused.ensures ∙ sym (ap said e); leaves = sym (refusal_keeps (planned (policy)) _ _ _ (groups a.people a.required.now) a.groups.now e) }
+    c.write_groups.ensures
+    ∙ ap (λ (r : List (List Bool)). over (map number_of (take c.in-Ok.k r)) a.groups.now) c.plan_into.ensures.table
+    ∙ ap (λ (l : List ℕ). over l a.groups.now) (rows-numbers _ _ accepted)
+    ∙ sym (result_writes (planned policy) _ (groups a.people a.required.now) a.groups.now accepted)
+
+pub returns-in-Err-clause-leaves : goal.returns-in-Err-clause-leaves
+returns-in-Err-clause-leaves c =
+    let policy : Policy = policy_of c.args.people c.args.required.now c.args.forbidden.now in
+    let a = c.args in
+    let e = sym c.plan_into.ensures.says ∙ ap outcome c.in-Err.is in
+    sym (refusal_keeps (planned policy) _ _ _ (groups a.people a.required.now) a.groups.now e)

@@ -2,14 +2,11 @@
 -- Assumes nothing.
 use mathlib.Core.Path.{◌≡◌}
 use mathlib.Core.List.{map}
-use Prim.Native.Nat.{◌-◌, ◌≤◌}
+use Prim.Native.Nat.{◌≤◌}
 use lib.ListN.{length, take}
 use Rattle.lists.specs.Over.{over}
 use Rattle.titmeadow.specs.Inner.{number_of}
 use Rattle.titmeadow.proofs.write_groups.Given as goal
 
 abbrev pub invariant-loop-j : goal.invariant-loop-j
-invariant-loop-j l = (l.j ≤ l.k) × (length l.groups ≡ 70) × (l.groups ≡ over (map number_of (take l.j l.rows)) l.initial.groups)
-
-abbrev pub decreases-loop-j : goal.decreases-loop-j
-decreases-loop-j l = l.k - l.j
+invariant-loop-j l = (length l.groups ≡ 70) × (l.groups ≡ over (map number_of (take l.j l.rows)) l.initial.groups)

@@ -14,19 +14,21 @@ pub stored_line-line-requires : goal.stored_line-line-requires
 stored_line-line-requires c = omega (arith, c.line_of.ensures, line-most c.args.k c.requires)
 
 pub loop-j-init : goal.loop-j-init
-loop-j-init c = (omega arith, omega arith, filled-start c.args.k)
+loop-j-init c = filled-start c.args.k
+
+pub offset_bounds-line-place_of : goal.offset_bounds-line-place_of
+offset_bounds-line-place_of c = omega (arith, c.place_of.ensures, (in_place c.args.k c.loop-j.j (omega arith) (omega arith) c.requires).2)
+
+pub bounds-line-place_of : goal.bounds-line-place_of
+bounds-line-place_of c = omega (arith, c.place_of.ensures, (in_place c.args.k c.loop-j.j (omega arith) (omega arith) c.requires).2)
 
 pub loop-j-preserved : goal.loop-j-preserved
-loop-j-preserved c = let read : get_or c.stored_line-line.result c.place_of-place.result 0 ≡ weight c.args.k c.loop-j.j =
-    read_weight c.args.k c.loop-j.j c.line_of.result c.place_of-place.result c.stored_line-line.result (omega arith) (omega arith) c.requires c.line_of.ensures c.place_of-place.ensures c.stored_line-line.ensures in
-    (omega arith, omega arith, stored_turn c.args.k c.loop-j.j _ c.loop-j.table (omega arith) (omega arith) c.requires (read) c.loop-j.invariant.2)
+loop-j-preserved c =
+    let l = c.loop-j in
+    let line = c.stored_line-line in
+    let read : get_or line.result c.place_of.result 0 ≡ weight c.args.k l.j =
+    read_weight c.args.k l.j c.line_of.result c.place_of.result line.result (omega arith) (omega arith) c.requires c.line_of.ensures c.place_of.ensures line.ensures in
+    stored_turn c.args.k l.j _ l.table (omega arith) (omega arith) c.requires read l.invariant
 
 pub returns : goal.returns
-returns c =
-    filled_end c.args.k (c.loop-j.j - 1) c.loop-j.table (omega arith) c.loop-j.invariant.2
-
-pub offset_bounds-line-place : goal.offset_bounds-line-place
-offset_bounds-line-place c = omega (arith, c.place_of-place.ensures, (in_place c.args.k c.loop-j.j (omega arith) (omega arith) c.requires).2)
-
-pub bounds-line-place : goal.bounds-line-place
-bounds-line-place c = omega (arith, c.place_of-place.ensures, (in_place c.args.k c.loop-j.j (omega arith) (omega arith) c.requires).2)
+returns c = filled_end c.args.k (c.loop-j.j - 1) c.loop-j.table (omega arith) c.loop-j.invariant

@@ -1,11 +1,8 @@
 -- `triangle::weights` meets its contract. The invariant: the weights of the pieces before j are in their places, and 0 past them.
 -- Assumes nothing.
-use Prim.Native.Nat.{◌+◌, ◌-◌, ◌≤◌}
+use Prim.Native.Nat.{◌-◌}
 use Rattle.field.proofs.Table.{Filled}
 use Rattle.triangle.proofs.weights.Given as goal
 
 abbrev pub invariant-loop-j : goal.invariant-loop-j
-invariant-loop-j l = (1 ≤ l.j) × (l.j ≤ l.k + 1) × Filled l.k (l.j - 1) l.table
-
-abbrev pub decreases-loop-j : goal.decreases-loop-j
-decreases-loop-j l = l.k + 1 - l.j
+invariant-loop-j l = Filled l.k (l.j - 1) l.table

@@ -16,9 +16,9 @@ returns c = let pieces : let b = c.args.b.now in c.if-mark-eq1988.pieces ≡ con
     λ i.
     record {
       mark = c.word-mark.ensures i;
-      number = c.word-number.ensures i;
-      people = c.word-people.ensures i;
+      number = c.word.ensures i;
+      people = c.word-2.ensures i;
       pieces = pieces i;
-      width = c.word-width.ensures i;
-      year = c.word-year.ensures i;
+      width = c.word-3.ensures i;
+      year = c.word-4.ensures i;
     }

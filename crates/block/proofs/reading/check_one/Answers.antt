@@ -5,11 +5,12 @@ use mathlib.Core.List.{List, [], ◌∷◌, ◌++◌}
 use Prim.Native.Nat.{ℕ}
 use lib.ListN.{length}
 use borrow.Author.Tests.{eq-eqb, ne_eqb}
-use Rattle.answer.specs.declared.Answer.{Answer}
-use Rattle.answer.specs.declared.Answer.TheVariants.{Done}
-use Rattle.answer.specs.Outcome.{outcome, refused}
+use Rattle.std.specs.Prelude.{⊤, Result, Ok}
+use Rattle.answer.specs.declared.Refusal.{Refusal}
+use Rattle.answer.proofs.PassedOn.{passed_on}
+use Rattle.answer.specs.Outcome.{checked, refused}
 use Rattle.answer.proofs.SaysLaws.{Says, said, whole, passes, speaks, silent, part_speaks, part_passes}
-use Rattle.lists.proofs.FirstLaws.{found_some, found_none}
+use Rattle.lists.proofs.FirstLaws.{found_none, placed_some, placed_found, placed_none}
 use Rattle.block.specs.Open.{slot_lines, foreign, one_lines}
 use Rattle.block.proofs.reading.check_one.Goals as goal
 
@@ -17,28 +18,29 @@ use Rattle.block.proofs.reading.check_one.Goals as goal
 past_torn : (b : List ℕ) (a : ℕ) → length b ≡ 512 → Says (said (one_lines b a)) (slot_lines b a ++ foreign b a ∷ [])
 past_torn b a e = passes (whole (one_lines b a)) (rw (eq-eqb _ 512 e))
 
-past_slots : (b : List ℕ) (a : ℕ) {x : Answer} {u : ℕ}
-    → length b ≡ 512 → outcome x ≡ said (slot_lines b a) → x ≡ Done u → Says (said (one_lines b a)) (foreign b a ∷ [])
+past_slots : (b : List ℕ) (a : ℕ) {x : Result ⊤ Refusal} {u : ⊤}
+    → length b ≡ 512 → checked x ≡ said (slot_lines b a) → x ≡ Ok u → Says (said (one_lines b a)) (foreign b a ∷ [])
 past_slots b a n e q = part_passes (slot_lines b a) (foreign b a ∷ []) (past_torn b a n) e q
 
 pub returns-then-b-ne512 : goal.returns-then-b-ne512
 returns-then-b-ne512 c =
-    c.refuse.ensures ∙ speaks (whole (one_lines c.args.b.now c.args.a)) (rw (ne_eqb _ 512 c.if-b-ne512.true))
+    ap checked c.refuse.ensures ∙ speaks (whole (one_lines c.args.b.now c.args.a)) (rw (ne_eqb _ 512 c.if-b-ne512.true))
 
-pub returns-in-Refused : goal.returns-in-Refused
-returns-in-Refused c =
+pub returns-in_err-check_slots : goal.returns-in_err-check_slots
+returns-in_err-check_slots c =
     let a = c.args in
-    part_speaks (slot_lines a.b.now a.a) (foreign a.b.now a.a ∷ []) (past_torn a.b.now a.a c.if-b-ne512.false) c.check_slots.ensures c.in-Refused.is
+    ap checked (passed_on c.from_residual.ensures.1)
+    ∙ part_speaks (slot_lines a.b.now a.a) (foreign a.b.now a.a ∷ []) (past_torn a.b.now a.a c.if-b-ne512.false) c.check_slots.ensures c.in_err-check_slots.was
 
-pub returns-then-wrong-ne0 : goal.returns-then-wrong-ne0
-returns-then-wrong-ne0 c =
+pub returns-in-Some : goal.returns-in-Some
+returns-in-Some c =
     let a = c.args in
-    let last = past_slots a.b.now a.a c.if-b-ne512.false c.check_slots.ensures c.in_default.is in
-    let e = c.first_foreign-wrong.ensures in
-    c.refuse-then-wrong-ne0.ensures ∙ ap (refused 17 a.a) e ∙ speaks last (found_some (λ z. c.if-wrong-ne0.true (e ∙ z)))
+    let last = past_slots a.b.now a.a c.if-b-ne512.false c.check_slots.ensures c.in_ok-check_slots.was in
+    let e = c.first_foreign.ensures in
+    ap checked c.refuse-in-Some.ensures ∙ ap (refused 17 a.a) (sym (placed_some _ e c.in-Some.is)) ∙ speaks last (placed_found _ e c.in-Some.is)
 
-pub returns : goal.returns
-returns c =
+pub returns-in-None : goal.returns-in-None
+returns-in-None c =
     let a = c.args in
-    let last = past_slots a.b.now a.a c.if-b-ne512.false c.check_slots.ensures c.in_default.is in
-    silent (passes last (found_none (sym c.first_foreign-wrong.ensures ∙ c.if-wrong-ne0.false)))
+    let last = past_slots a.b.now a.a c.if-b-ne512.false c.check_slots.ensures c.in_ok-check_slots.was in
+    silent (passes last (found_none (placed_none _ c.first_foreign.ensures c.in-None.is)))

@@ -4,11 +4,11 @@ use Rattle.block.proofs.reading.front_words.Goals as goal
 
 pub returns : goal.returns
 returns c = λ i.
-    c.word-mark.ensures i
-    ∷ c.word-deal.ensures i
-    ∷ c.word-holder.ensures i
-    ∷ c.word-people.ensures i
-    ∷ c.word-pieces.ensures i
-    ∷ c.word-width.ensures i
-    ∷ c.word-piece.ensures i
+    c.word.ensures i
+    ∷ c.word-2.ensures i
+    ∷ c.word-3.ensures i
+    ∷ c.word-4.ensures i
+    ∷ c.word-5.ensures i
+    ∷ c.word-6.ensures i
+    ∷ c.word-7.ensures i
     ∷ []

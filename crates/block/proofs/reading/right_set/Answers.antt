@@ -7,15 +7,15 @@ use Rattle.block.specs.Layout.{within, range_at}
 use Rattle.block.proofs.LayoutLaws.{right-set}
 use Rattle.block.proofs.reading.right_set.Goals as goal
 
-pub returns-then-mark-eq1988 : goal.returns-then-mark-eq1988
+pub returns-then-word-eq1988 : goal.returns-then-word-eq1988
 unfolding range_at
-returns-then-mark-eq1988 c =
+returns-then-word-eq1988 c =
     let b = c.args.b.now in
-    rw (right-set b, eq-eqb _ 1988 (sym c.word-mark.ensures ∙ c.if-mark-eq1988.true))
+    rw (right-set b, eq-eqb _ 1988 (sym c.word.ensures ∙ c.if-word-eq1988.true))
     (c.within.ensures ∙ ap (λ (v : ℕ). within 1 v 70) c.word-set.ensures)
 
-pub returns-else-mark-eq1988 : goal.returns-else-mark-eq1988
+pub returns-else-word-eq1988 : goal.returns-else-word-eq1988
 unfolding range_at
-returns-else-mark-eq1988 c =
+returns-else-word-eq1988 c =
     let b = c.args.b.now in
-    rw (right-set b, ne_eqb _ 1988 (λ e. c.if-mark-eq1988.false (c.word-mark.ensures ∙ e))) (ap (λ (v : ℕ). eqb v 0) c.word-set.ensures)
+    rw (right-set b, ne_eqb _ 1988 (λ e. c.if-word-eq1988.false (c.word.ensures ∙ e))) (ap (λ (v : ℕ). eqb v 0) c.word-set.ensures)

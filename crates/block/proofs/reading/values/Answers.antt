@@ -15,19 +15,19 @@ at_offset b o {n} {m} e = let f : n + o ≡ o + m = omega arith in rw f
 
 pub slice_bounds-result-end : goal.slice_bounds-result-end
 slice_bounds-result-end c =
-    omega (arith, (values_head c.args.pile.now c.in-Head.h (sym c.open.ensures ∙ ap opened c.in-Head.is)).0)
+    omega (arith, (values_head c.args.pile.now c.in-Ok.h (sym c.open.ensures ∙ ap opened c.in-Ok.is)).0)
 
-pub returns-in-Head : goal.returns-in-Head
-returns-in-Head c =
+pub returns-in-Ok : goal.returns-in-Ok
+returns-in-Ok c =
     let p = c.args.pile in
-    let r = values_head p.now c.in-Head.h (sym c.open.ensures ∙ ap opened c.in-Head.is) in
+    let r = values_head p.now c.in-Ok.h (sym c.open.ensures ∙ ap opened c.in-Ok.is) in
     record {
-      content = ap (λ (n : ℕ). take n (drop 14 p.now)) (add-sub_cancel_left 14 (2 * c.in-Head.h.width)) ∙ r.1;
+      content = ap (λ (n : ℕ). take n (drop 14 p.now)) (add-sub_cancel_left 14 (2 * c.in-Ok.h.width)) ∙ r.1;
       place = at_offset p.ref_ptr.0 p.ref_ptr.1 r.2;
     }
 
-pub returns-in-Refused : goal.returns-in-Refused
-returns-in-Refused c =
+pub returns-in-Err : goal.returns-in-Err
+returns-in-Err c =
     let p = c.args.pile in
-    let r = refused_empty p.now _ _ _ (sym c.open.ensures ∙ ap opened c.in-Refused.is) in
+    let r = refused_empty p.now _ _ _ (sym c.open.ensures ∙ ap opened c.in-Err.is) in
     record { content = sym r.0; place = at_offset p.ref_ptr.0 p.ref_ptr.1 r.1 }

@@ -1,13 +1,12 @@
--- `block::writing::put_word` meets its contract. Assumes nothing.
+-- `block::writing::put_word` meets its contract: the two bytes of the number, the high one in front. Assumes nothing.
+use mathlib.Core.Path.{◌≡◌}
+use Prim.Native.Nat.{◌/◌, ◌%◌}
 use native.Mathlib.Omega.{arith}
-use mathlib.Core.Path.{refl}
-use lib.ListN.{length-set}
 use Rattle.block.specs.Words.{put_at}
 use Rattle.block.proofs.writing.put_word.Goals as goal
 
-pub bounds-b-at-2 : goal.bounds-b-at-2
-bounds-b-at-2 c = simp length-set (omega arith)
-
 pub returns : goal.returns
 unfolding put_at
-returns c = refl
+returns c =
+    let high : c.args.v / 256 % 256 ≡ c.args.v / 256 = omega (arith, c.ranges.v.fits) in
+    rw (c.to_be_bytes.ensures, high)

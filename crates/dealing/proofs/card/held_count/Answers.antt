@@ -1,32 +1,24 @@
--- `dealing::card::held_count` meets its contract: count is how many pieces of the first rows the holder has.
+-- `dealing::card::held_count` meets its contract: the rows that do not mark the holder are those of the pieces held.
 -- Assumes nothing.
-use Prim.Native.Nat.{ℕ}
-use mathlib.Core.Bool.{not}
-use mathlib.Core.Path.{◌≡◌, ap, ◌∙◌}
+use mathlib.Core.Path.{◌≡◌, ◌∙◌}
+use mathlib.Core.Bool.{Bool, not, false}
+use mathlib.Core.List.{List, []}
+use Prim.Native.Nat.{◌+◌, ◌-◌}
 use native.Mathlib.Omega.{arith}
-use lib.ListN.{length}
+use lib.ListN.{get_or, take}
+use Rattle.std.proofs.Common.{rules, tests}
+use Rattle.std.proofs.lemmas.Iterator.{YieldsList-from_slice}
+use Rattle.std.proofs.lemmas.Iterator.Consumers.{YieldsList-from_filter, count_from_yields_List}
 use Rattle.dealing.specs.Inner.{held_in}
-use Rattle.dealing.proofs.CardLaws.{next-piece, held_start, held_skip, held-take}
+use Rattle.dealing.proofs.CountLaws.{counted_those}
+use Rattle.dealing.proofs.CardLaws.{unmarked}
 use Rattle.dealing.proofs.card.held_count.Goals as goal
-use Rattle.dealing.proofs.card.held_count.Goals.{then-not-rows-i, else-not-rows-i}
-
-pub loop-i-init : goal.loop-i-init
-loop-i-init c = (omega arith, omega arith, held_start _ _)
-
-pub loop-i-preserved : goal.loop-i-preserved
-loop-i-preserved c =
-    let l = c.loop-i in
-    let a = c.args in
-    elim c.if-not-rows-i.branch [
-      | then-not-rows-i w ↦
-          (omega arith, omega (arith, w.count-is), w.count-is ∙ held-take a.rows.now a.holder l.i l.count (next-piece a.rows.now a.holder l.i (ap not w.if-not-rows-i.true)) l.invariant.2)
-      | else-not-rows-i w ↦
-          (omega arith, omega (arith, w.count-is), w.count-is ∙ held_skip a.rows.now a.holder l.i l.count (next-piece a.rows.now a.holder l.i (ap not w.if-not-rows-i.false)) l.invariant.2)
-    ]
 
 pub returns : goal.returns
+unfolding held_in
 returns c =
-    let l = c.loop-i in
-    let a = c.args in
-    let e : l.i ≡ a.k = omega arith in
-    l.invariant.2 ∙ ap (λ (x : ℕ). length (held_in a.rows.now a.holder x)) e
+    let rows = c.args.rows.now in
+    let p : List Bool → Bool = λ row. not (get_or row (c.args.holder - 1) false) in
+    let k = c.args.k in
+    count_from_yields_List _ _ c.count.ensures.ran (YieldsList-from_filter _ p (YieldsList-from_slice (take k rows) cc) c.filter.ensures.closure (λ x r q h. search (rules, tests)))
+    ∙ counted_those p rows [] (unmarked rows c.args.holder) k (omega (arith, c.told-rows, c.requires.0)) (λ i m. let z : 1 + i - 1 ≡ i = omega arith in rw z)

@@ -3,14 +3,15 @@
 use Prim.Native.Nat.{◌+◌, ◌-◌, ◌*◌, ◌≤◌, ◌<◌, ℕ}
 use mathlib.Core.Path.{◌≡◌, sym, ap, ◌∙◌}
 use mathlib.Core.Bool.{Bool, true, false, not}
-use mathlib.Core.List.{List, []}
+use mathlib.Core.List.{List, [], ◌++◌}
 use native.Mathlib.Omega.{arith}
-use lib.ListN.{length, get_or}
+use lib.ListN.{length, get_or, take, drop}
+use Rattle.lists.specs.Over.{over}
 use Rattle.lists.specs.Places.{those}
-use Rattle.answer.specs.Outcome.{done}
-use Rattle.answer.proofs.LentLaws.{room-refused, room-given, refusal_keeps}
+use Rattle.answer.specs.Outcome.{done, outcome}
+use Rattle.answer.proofs.LentLaws.{room-refused, room-given}
 use Rattle.dealing.specs.Inner.{held_in}
-use Rattle.dealing.proofs.CardLaws.{unmarked, next-piece, held-few, block_size}
+use Rattle.dealing.proofs.CardLaws.{unmarked, next-piece, held-few, block_size, block-is, ready_writable}
 use Rattle.dealing.proofs.LaidLaws.{Laid, laid_start, laid_skip, laid_take, laid_end, room-left}
 use Rattle.dealing.proofs.card.write_card.Goals as goal
 use Rattle.dealing.proofs.card.write_card.Goals.{then-not-rows-row, else-not-rows-row}
@@ -28,44 +29,27 @@ room : (rows : List (List Bool)) (holder : ℕ) {block : ℕ → List ℕ} {k bl
     → blocks ≡ length (held_in rows holder k) → 512 * blocks ≤ length old → at + 512 ≤ length out
 room rows holder {k = k} {blocks = blocks} {row = row} {old = old} w size h t e r = room-left w size h (next-piece rows holder row t) (enough rows holder k blocks old e r)
 
-pub held_count-blocks-requires : goal.held_count-blocks-requires
-held_count-blocks-requires c =
-    let r = c.requires in
-    (r.most, r.holder_in.0, omega (arith, r.holder_in.1, r.few))
-
 pub overflow_mul-blocks : goal.overflow_mul-blocks
 overflow_mul-blocks c =
-    omega (arith, c.held_count-blocks.ensures, held-few c.args.rows.now c.args.asked.holder c.args.k, c.requires.most)
+    omega (arith, c.held_count-blocks.ensures, held-few c.args.rows.now c.args.holder c.args.k, c.requires.most)
 
-pub returns-then-out-blocks : goal.returns-then-out-blocks
-returns-then-out-blocks c =
+pub returns-then-out-blocks-clause-says : goal.returns-then-out-blocks-clause-says
+returns-then-out-blocks-clause-says c =
     let h = c.held_count-blocks in
-    record { says = rw (← h.ensures) (c.refuse.ensures ∙ sym (room-refused (512 * h.result) h.result (length c.args.out.now) (done h.result) c.if-out-blocks.true)); leaves = sym (refusal_keeps _ 12 h.result 0 _ c.args.out.now c.refuse.ensures) }
-
-pub overflow_sub-column : goal.overflow_sub-column
-overflow_sub-column c = omega (arith, c.requires.holder_in.0)
+    rw (← h.ensures) (ap outcome c.refuse.ensures ∙ sym (room-refused (512 * h.result) h.result (length c.args.out.now) (done h.result) c.if-out-blocks.true))
 
 pub loop-row-init : goal.loop-row-init
 loop-row-init c = laid_start _ _ _ _
 
-pub bounds-rows-row : goal.bounds-rows-row
-bounds-rows-row c = omega (arith, c.requires.most)
-
-pub bounds-rows-column : goal.bounds-rows-column
-bounds-rows-column c =
-    let r = c.requires in
-    omega (arith, r.holder_in.1, r.few)
-
 pub write_piece-requires : goal.write_piece-requires
 write_piece-requires c =
     record {
-      at_in_bounds = room c.args.rows.now c.args.asked.holder c.loop-row.invariant (block_size _ _ _ _) c.loop-row-test.true (ap not c.if-not-rows-row.true) c.held_count-blocks.ensures c.if-out-blocks.false;
-      ready = c.requires;
-      le_j = (omega arith, omega (arith, c.loop-row-test.true));
+      at_in_bounds = room c.args.rows.now c.args.holder c.loop-row.invariant (block_size _ _ _ _) c.loop-row-test.true (ap not c.if-not-rows-row.true) c.held_count-blocks.ensures c.if-out-blocks.false;
+      writable = ready_writable _ _ _ _ c.shared_label-shared.ensures (c.loop-row.row + 1) c.requires (omega arith) (omega (arith, c.loop-row-test.true));
     }
 
 pub overflow_add-at : goal.overflow_add-at
-overflow_add-at c = omega (arith, room c.args.rows.now c.args.asked.holder c.loop-row.invariant (block_size _ _ _ _) c.loop-row-test.true (ap not c.if-not-rows-row.true) c.held_count-blocks.ensures c.if-out-blocks.false)
+overflow_add-at c = omega (arith, room c.args.rows.now c.args.holder c.loop-row.invariant (block_size _ _ _ _) c.loop-row-test.true (ap not c.if-not-rows-row.true) c.held_count-blocks.ensures c.if-out-blocks.false)
 
 pub loop-row-preserved : goal.loop-row-preserved
 loop-row-preserved c =
@@ -75,14 +59,11 @@ loop-row-preserved c =
     elim c.if-not-rows-row.branch [
       | then-not-rows-row w ↦
           rw w.at-is
-          (laid_take l.invariant (block_size _ _ _ _) h (next-piece a.rows.now a.asked.holder l.row (ap not w.if-not-rows-row.true))
-          (enough a.rows.now a.asked.holder a.k c.held_count-blocks.result a.out.now c.held_count-blocks.ensures c.if-out-blocks.false) c.if-not-rows-row.out
-          (w.out-is ∙ w.write_piece.ensures))
-      | else-not-rows-row w ↦ rw (w.out-is, w.at-is) (laid_skip l.invariant h (next-piece a.rows.now a.asked.holder l.row (ap not w.if-not-rows-row.false)))
+          (laid_take l.invariant (block_size _ _ _ _) h (next-piece a.rows.now a.holder l.row (ap not w.if-not-rows-row.true))
+          (enough a.rows.now a.holder a.k c.held_count-blocks.result a.out.now c.held_count-blocks.ensures c.if-out-blocks.false) c.if-not-rows-row.out
+          (w.out-is ∙ w.write_piece.ensures ∙ ap (λ (b : List ℕ). take l.at l.out ++ over b (drop l.at l.out)) (block-is _ _ c.args.deal.secret.now c.args.deal.random.now c.shared_label-shared.ensures (l.row + 1))))
+      | else-not-rows-row w ↦ rw (w.out-is, w.at-is) (laid_skip l.invariant h (next-piece a.rows.now a.holder l.row (ap not w.if-not-rows-row.false)))
     ]
-
-pub shape_of-out : goal.shape_of-out
-shape_of-out c = c.loop-row.invariant.same
 
 pub returns : goal.returns
 unfolding held_in

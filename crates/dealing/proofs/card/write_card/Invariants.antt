@@ -1,13 +1,12 @@
 -- `dealing::card::write_card` meets its contract: the blocks of the first rows are laid over the front of what was lent.
 -- Assumes nothing.
-use Prim.Native.Nat.{◌-◌}
-use Rattle.dealing.specs.Deal.{block_for}
+use Rattle.dealing.specs.Deal.{asked_of, block_for}
+use Rattle.dealing.specs.Given.{deal_in}
 use Rattle.dealing.proofs.CardLaws.{unmarked}
 use Rattle.dealing.proofs.LaidLaws.{Laid}
 use Rattle.dealing.proofs.card.write_card.Given as goal
 
 abbrev pub invariant-loop-row : goal.invariant-loop-row
-invariant-loop-row l = Laid (block_for l.asked l.k l.secret l.random) (unmarked l.rows l.asked.holder) l.k l.initial.out l.out l.at l.row
-
-abbrev pub decreases-loop-row : goal.decreases-loop-row
-decreases-loop-row l = l.k - l.row
+invariant-loop-row l =
+    let d = deal_in l.deal in
+    Laid (block_for (asked_of d l.holder) l.k d.secret d.random) (unmarked l.rows l.holder) l.k l.initial.out l.out l.at l.row

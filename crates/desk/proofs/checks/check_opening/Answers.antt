@@ -2,67 +2,74 @@
 -- Assumes nothing.
 use native.Mathlib.Omega.{arith}
 use mathlib.Core.Path.{◌≡◌, sym, ap, ◌∙◌}
-use mathlib.Core.Bool.{false}
-use mathlib.Core.Logic.{◌≢◌}
+use mathlib.Core.Bool.{false, not}
+use mathlib.Core.List.{[], ◌∷◌}
 use Prim.Native.Nat.{ℕ, ◌-◌}
-use borrow.Author.Tests.{eq-eqb, ne_eqb, lt-ltb, le-ltb}
-use Rattle.answer.specs.Outcome.{refused}
-use Rattle.lists.proofs.FirstLaws.{found_some, found_none}
+use borrow.Author.Tests.{lt-ltb, le-ltb}
+use Rattle.std.specs.Prelude.{Option, None}
+use Rattle.lists.specs.Places.{placed}
+use Rattle.lists.proofs.FirstLaws.{placed_some, placed_found, placed_none, found_none}
+use Rattle.answer.specs.Outcome.{refused, checked}
+use Rattle.answer.proofs.SaysLaws.{passes, speaks, silent}
+use Rattle.desk.specs.declared.Clients.{Clients}
 use Rattle.desk.specs.declared.Opening.{Opening}
-use Rattle.desk.specs.Opens.{bad_word, other, words_in, accepted, reserved}
-use Rattle.desk.proofs.ChainLaws.{is-nobody, is-busy, is-bad, is-full, not_full}
+use Rattle.desk.specs.Opens.{bad_word, is_client, other, words_in, accepted, reserved}
+use Rattle.desk.specs.Lines.{busy, bad_opening, no_slots}
+use Rattle.desk.proofs.ChainLaws.{OpenLeft, open_all}
 use Rattle.desk.proofs.checks.check_opening.Goals as goal
 
--- words that were read, and are not as they are accepted, are those of a client whose desk is shut
-shut : {b : ℕ} {o mine : Opening} → b ≡ bad_word o → o ≡ mine → b ≢ 0 → accepted mine ≡ false
-shut e q n = ne_eqb _ 0 (λ z. n (e ∙ ap bad_word q ∙ z))
+module _ (both : Clients) (c : ℕ) (new : Opening) where
+  abbrev mine : Opening
+  mine = words_in both c
+
+  abbrev taken : ℕ
+  taken = reserved (words_in both (other c))
+
+  -- past NOCLIENT, past BUSY and past HEADER
+  past1 : not (is_client c) ≡ false → OpenLeft mine taken c new (busy mine ∷ bad_opening new ∷ no_slots taken new ∷ [])
+  past1 e = passes (open_all mine taken c new) e
+
+  past2 : OpenLeft mine taken c new (busy mine ∷ bad_opening new ∷ no_slots taken new ∷ []) → accepted mine ≡ false
+      → OpenLeft mine taken c new (bad_opening new ∷ no_slots taken new ∷ [])
+  past2 l e = passes l e
+
+  past3 : OpenLeft mine taken c new (bad_opening new ∷ no_slots taken new ∷ []) → {r : Option ℕ} → r ≡ placed (bad_word new) → r ≡ None
+      → OpenLeft mine taken c new (no_slots taken new ∷ [])
+  past3 l e q = passes l (found_none (placed_none (bad_word new) e q))
 
 pub returns-then-no_client : goal.returns-then-no_client
 returns-then-no_client c =
     let a = c.args in
-    let mine = words_in a.both a.client in
-    let theirs = words_in a.both (other a.client) in
-    c.refuse.ensures ∙ is-nobody mine (reserved theirs) a.client a.new (sym c.no_client.ensures ∙ c.if-no_client.true)
+    ap checked c.refuse.ensures ∙ speaks (open_all (mine a.both.now a.client a.new) (taken a.both.now a.client a.new) a.client a.new) (sym c.no_client.ensures ∙ c.if-no_client.true)
 
-pub returns-then-bad_word-eq0 : goal.returns-then-bad_word-eq0
-returns-then-bad_word-eq0 c =
+pub returns-then-accepted : goal.returns-then-accepted
+returns-then-accepted c =
     let a = c.args in
-    let mine = words_in a.both a.client in
-    let theirs = words_in a.both (other a.client) in
-    let known = sym c.no_client.ensures ∙ c.if-no_client.false in
-    c.refuse-then-bad_word-eq0.ensures
-    ∙ is-busy mine (reserved theirs) a.client a.new known (eq-eqb _ 0 (sym (c.bad_word.ensures ∙ ap bad_word c.words_of-o.ensures) ∙ c.if-bad_word-eq0.true))
+    let l1 = past1 a.both.now a.client a.new (sym c.no_client.ensures ∙ c.if-no_client.false) in
+    ap checked c.refuse-then-accepted.ensures ∙ speaks l1 (ap accepted (sym c.words_of-mine.ensures) ∙ sym c.accepted.ensures ∙ c.if-accepted.true)
 
-pub returns-then-bad-ne0 : goal.returns-then-bad-ne0
-returns-then-bad-ne0 c =
+pub returns-in-Some : goal.returns-in-Some
+returns-in-Some c =
     let a = c.args in
-    let mine = words_in a.both a.client in
-    let theirs = words_in a.both (other a.client) in
-    let known = sym c.no_client.ensures ∙ c.if-no_client.false in
-    let closed = shut c.bad_word.ensures c.words_of-o.ensures c.if-bad_word-eq0.false in
-    let w = c.bad_word-bad.ensures in
-    c.refuse-then-bad-ne0.ensures ∙ ap (refused 17 0) w
-    ∙ is-bad mine (reserved theirs) a.client a.new known closed (found_some (λ z. c.if-bad-ne0.true (w ∙ z)))
+    let l1 = past1 a.both.now a.client a.new (sym c.no_client.ensures ∙ c.if-no_client.false) in
+    let l2 = past2 a.both.now a.client a.new l1 (ap accepted (sym c.words_of-mine.ensures) ∙ sym c.accepted.ensures ∙ c.if-accepted.false) in
+    let e = c.bad_word.ensures in
+    ap checked c.refuse-in-Some.ensures ∙ ap (refused 17 0) (sym (placed_some (bad_word a.new) e c.in-Some.is)) ∙ speaks l2 (placed_found (bad_word a.new) e c.in-Some.is)
 
-pub returns-then-taken-k : goal.returns-then-taken-k
-returns-then-taken-k c =
+pub returns-then-taken-new : goal.returns-then-taken-new
+returns-then-taken-new c =
     let a = c.args in
-    let mine = words_in a.both a.client in
-    let theirs = words_in a.both (other a.client) in
-    let known = sym c.no_client.ensures ∙ c.if-no_client.false in
-    let closed = shut c.bad_word.ensures c.words_of-o.ensures c.if-bad_word-eq0.false in
-    let good = found_none (sym c.bad_word-bad.ensures ∙ c.if-bad-ne0.false) in
-    let taken = c.reserved-taken.ensures.0 ∙ ap reserved (c.words_of-theirs.ensures ∙ ap (words_in a.both) c.other.ensures) in
-    c.refuse-then-taken-k.ensures
-    ∙ is-full mine (reserved theirs) a.client a.new known closed good (lt-ltb (70 - reserved theirs) a.new.pieces (omega (arith, taken, c.if-taken-k.true)))
+    let l1 = past1 a.both.now a.client a.new (sym c.no_client.ensures ∙ c.if-no_client.false) in
+    let l2 = past2 a.both.now a.client a.new l1 (ap accepted (sym c.words_of-mine.ensures) ∙ sym c.accepted.ensures ∙ c.if-accepted.false) in
+    let l3 = past3 a.both.now a.client a.new l2 c.bad_word.ensures c.in_default.is in
+    let n = c.reserved-taken.ensures.0 ∙ ap reserved (c.words_of-theirs.ensures ∙ ap (words_in a.both.now) c.other.ensures) in
+    ap checked c.refuse-then-taken-new.ensures ∙ speaks l3 (lt-ltb (70 - taken a.both.now a.client a.new) a.new.pieces (omega (arith, n, c.if-taken-new.true)))
 
 pub returns : goal.returns
 returns c =
     let a = c.args in
-    let mine = words_in a.both a.client in
-    let theirs = words_in a.both (other a.client) in
-    let known = sym c.no_client.ensures ∙ c.if-no_client.false in
-    let closed = shut c.bad_word.ensures c.words_of-o.ensures c.if-bad_word-eq0.false in
-    let good = found_none (sym c.bad_word-bad.ensures ∙ c.if-bad-ne0.false) in
-    let taken = c.reserved-taken.ensures.0 ∙ ap reserved (c.words_of-theirs.ensures ∙ ap (words_in a.both) c.other.ensures) in
-    not_full mine (reserved theirs) a.client a.new known closed good (le-ltb (70 - reserved theirs) a.new.pieces (omega (arith, taken, c.if-taken-k.false)))
+    let l1 = past1 a.both.now a.client a.new (sym c.no_client.ensures ∙ c.if-no_client.false) in
+    let l2 = past2 a.both.now a.client a.new l1 (ap accepted (sym c.words_of-mine.ensures) ∙ sym c.accepted.ensures ∙ c.if-accepted.false) in
+    let l3 = past3 a.both.now a.client a.new l2 c.bad_word.ensures c.in_default.is in
+    let n = c.reserved-taken.ensures.0 ∙ ap reserved (c.words_of-theirs.ensures ∙ ap (words_in a.both.now) c.other.ensures) in
+    silent (passes l3 (le-ltb (70 - taken a.both.now a.client a.new) a.new.pieces (omega (arith, n, c.if-taken-new.false))))

@@ -1,48 +1,24 @@
--- `desk::slots::distinct` meets its contract. The invariant: what is found counts the pieces of 1 to j that are kept.
+-- `desk::slots::distinct` meets its contract: the library counts the pieces that are kept.
 -- Assumes nothing.
 use native.Mathlib.Omega.{arith}
-use mathlib.Core.Path.{◌≡◌, refl, sym, ap, ◌∙◌}
-use Prim.Native.Nat.{ℕ}
-use lib.ListN.{length}
-use Rattle.lists.specs.Places.{those}
+use mathlib.Core.Path.{refl, ◌∙◌}
+use Prim.Native.Nat.{◌+◌, ◌-◌}
+use borrow.Author.Rules.{rules}
+use borrow.Author.Tests.{tests}
+use Rattle.std.proofs.lemmas.Iterator.{YieldsList-from_range}
+use Rattle.std.proofs.lemmas.Iterator.Consumers.{count_from_yields_List, YieldsList-from_filter, YieldsList-at}
 use Rattle.lists.proofs.ThoseLaws.{those-few}
-use Rattle.desk.specs.Slots.{keeps_at, keeps, distinct}
-use Rattle.desk.proofs.KeepLaws.{turn_kept, turn_lacking}
+use Rattle.desk.specs.Slots.{keeps, distinct}
+use Rattle.desk.proofs.KeepLaws.{distinct_filter}
 use Rattle.desk.proofs.slots.distinct.Goals as goal
-use Rattle.desk.proofs.slots.distinct.Goals.{then-keeps, else-keeps}
-
-pub loop-j-init : goal.loop-j-init
-unfolding those
-loop-j-init c = (omega arith, c.requires.0, c.requires.1, refl)
-
-pub start-at-requires : goal.start-at-requires
-start-at-requires c = (omega arith, omega arith)
-
-pub keeps-requires : goal.keeps-requires
-keeps-requires c = (c.start-at.ensures.1, c.loop-j.invariant.2)
-
-pub overflow_add-found : goal.overflow_add-found
-overflow_add-found c =
-    omega (arith, c.loop-j.invariant.3, those-few (keeps c.args.slots.now c.args.client c.args.o.width) 1 c.loop-j.j)
-
-pub loop-j-preserved : goal.loop-j-preserved
-loop-j-preserved c =
-    let g = c.args in
-    let v = c.loop-j.invariant in
-    let at = ap (λ (x : ℕ). keeps_at g.slots.now x g.o.width) (sym c.start-at.ensures.0) ∙ sym c.keeps.ensures in (
-      omega arith,
-      v.1,
-      v.2,
-      elim c.if-keeps.branch [
-        | then-keeps w ↦ w.found-is ∙ turn_kept g.slots.now g.client g.o.width c.loop-j.j c.loop-j.found v.3 (at ∙ w.if-keeps.true)
-        | else-keeps w ↦ w.found-is ∙ turn_lacking g.slots.now g.client g.o.width c.loop-j.j c.loop-j.found v.3 (at ∙ w.if-keeps.false)
-      ],
-    )
 
 pub returns : goal.returns
 unfolding distinct
 returns c =
-    let g = c.args in
-    let e : c.loop-j.j ≡ g.o.pieces = omega arith in
-    let n = c.loop-j.invariant.3 ∙ ap (λ (n : ℕ). length (those (keeps g.slots.now g.client g.o.width) 1 n)) e in
-    (n, omega (arith, n, those-few (keeps g.slots.now g.client g.o.width) 1 g.o.pieces))
+    let a = c.args in
+    let kept = keeps a.slots.now a.client a.o.width in
+    let road = YieldsList-from_range 1 (a.o.pieces + 1) (a.o.pieces + 1 - 1) refl refl in
+    let n = count_from_yields_List c.filter.result c.count.result c.count.ensures.ran
+    (YieldsList-from_filter _ kept (YieldsList-at c.filter.ensures.source road) c.filter.ensures.closure (λ x b q k. search (rules, tests)))
+    ∙ distinct_filter a.slots.now a.o a.client in
+    (n, omega (arith, n, those-few kept 1 a.o.pieces))

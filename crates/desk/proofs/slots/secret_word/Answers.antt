@@ -26,7 +26,7 @@ join_word-requires c = let front : take c.args.o.pieces c.write_column.new.value
     let lent = take k c.write_column.new.values in
     let e : lent ≡ column (value_in c.args.slots.now c.args.client) k c.args.i = front in
     let n : length lent ≡ k = ap length e ∙ column-length (value_in c.args.slots.now c.args.client) k c.args.i in record {
-      pieces_len_bound = omega (arith, n, c.requires.pieces_bound.0);
+      pieces_len_bound = omega (arith, n, c.requires.small.pieces);
       below = subst Below (sym e) (column-below c.args.slots.now c.args.o c.args.client c.args.i c.requires.all_kept c.requires.le_i.0 c.requires.le_i.1);
       weights = subst (λ (ws : List ℕ). Weights (length lent) ws) (sym c.requires.weights_value)
           (subst (λ (m : ℕ). Weights (length lent) (weights_of m)) n (weights_are _));

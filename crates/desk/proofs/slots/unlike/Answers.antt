@@ -1,17 +1,17 @@
--- `desk::slots::unlike` meets its contract. The invariant: the first value that differs is still to be found from value i on.
+-- `desk::slots::unlike` meets its contract: the library tests the values one by one.
 -- Assumes nothing.
-use mathlib.Core.Path.{◌∙◌, sym}
-use Rattle.desk.proofs.KeepLaws.{ahead_all, differs, agrees, none_differs}
+use mathlib.Core.Path.{refl, ◌∙◌}
+use Prim.Native.Nat.{◌+◌, ◌-◌}
+use borrow.Author.Rules.{rules}
+use borrow.Author.Tests.{tests}
+use Rattle.std.proofs.lemmas.Iterator.{YieldsList-from_range}
+use Rattle.std.proofs.lemmas.Iterator.Search.{any_from_yields_List}
+use Rattle.desk.proofs.KeepLaws.{apart, unlike_any}
 use Rattle.desk.proofs.slots.unlike.Goals as goal
 
-pub loop-i-init : goal.loop-i-init
-loop-i-init c = ahead_all _ _ _ _
-
-pub returns-then-slots-at : goal.returns-then-slots-at
-returns-then-slots-at c = differs _ _ _ _ c.loop-i.invariant c.loop-i-test.true (λ e. c.if-slots-at.true (e ∙ sym c.word.ensures))
-
-pub loop-i-preserved : goal.loop-i-preserved
-loop-i-preserved c = agrees _ _ _ _ c.loop-i.invariant c.loop-i-test.true (c.if-slots-at.false ∙ c.word.ensures)
-
 pub returns : goal.returns
-returns c = none_differs _ _ _ _ c.loop-i.invariant c.loop-i-test.false
+returns c =
+    let a = c.args in
+    any_from_yields_List (apart a.slots.now a.at a.block.now) _ _ c.any.result c.any.ensures.ran
+    (YieldsList-from_range 1 (a.w + 1) (a.w + 1 - 1) refl refl) (λ x b q k. search (rules, tests))
+    ∙ unlike_any a.slots.now a.at a.w a.block.now

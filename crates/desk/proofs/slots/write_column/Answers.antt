@@ -3,7 +3,6 @@
 use native.Mathlib.Omega.{arith}
 use mathlib.Core.Path.{◌≡◌, refl, ap, ◌∙◌}
 use Prim.Native.Nat.{ℕ}
-use lib.ListN.{length-set}
 use Rattle.lists.specs.Over.{over}
 use Rattle.lists.specs.Run.{run}
 use Rattle.lists.proofs.OverLaws.{over_on}
@@ -13,18 +12,15 @@ use Rattle.desk.proofs.slots.write_column.Goals as goal
 
 pub loop-j-init : goal.loop-j-init
 unfolding run over
-loop-j-init c = (omega arith, c.requires.k_in_bounds, refl, refl)
+loop-j-init c = refl
 
 pub loop-j-preserved : goal.loop-j-preserved
 loop-j-preserved c =
-    let v = c.loop-j.invariant in
-    (omega arith, v.1, length-set c.loop-j.values c.loop-j.j _ ∙ v.2, over_on (λ m. value_in c.args.slots.now c.args.client m c.args.i) c.args.values.now c.loop-j.values c.loop-j.j _ (omega (arith, v.1)) (ap (λ (x : ℕ). in_slot c.args.slots.now x c.args.i) c.start.ensures.0) v.3)
-
-pub shape_of-values : goal.shape_of-values
-shape_of-values c = c.loop-j.invariant.2
+    over_on (λ m. value_in c.args.slots.now c.args.client m c.args.i) c.args.values.now c.loop-j.values c.loop-j.j _ (omega arith)
+    (ap (λ (x : ℕ). in_slot c.args.slots.now x c.args.i) c.start.ensures.0) c.loop-j.invariant
 
 pub returns : goal.returns
 unfolding column
 returns c =
     let e : c.loop-j.j ≡ c.args.k = omega arith in
-    c.loop-j.invariant.3 ∙ ap (λ (n : ℕ). over (run (λ m. value_in c.args.slots.now c.args.client m c.args.i) 1 n) c.args.values.now) e
+    c.loop-j.invariant ∙ ap (λ (n : ℕ). over (run (λ m. value_in c.args.slots.now c.args.client m c.args.i) 1 n) c.args.values.now) e

@@ -3,7 +3,6 @@
 use native.Mathlib.Omega.{arith}
 use mathlib.Core.Path.{◌≡◌, refl, ap, ◌∙◌}
 use Prim.Native.Nat.{ℕ}
-use lib.ListN.{length-set}
 use Rattle.lists.specs.Over.{over}
 use Rattle.lists.specs.Run.{run}
 use Rattle.field.specs.Joined.{joined}
@@ -12,32 +11,23 @@ use Rattle.field.specs.Secret.{column, secret_of}
 use Rattle.desk.specs.Slots.{value_in}
 use Rattle.desk.proofs.slots.write_secret.Goals as goal
 
-pub weights-weights-requires : goal.weights-weights-requires
-weights-weights-requires c = c.requires.pieces_bound.0
-
 pub loop-i-init : goal.loop-i-init
 unfolding run over
-loop-i-init c = (omega arith, c.requires.width_in_bounds, refl, refl, refl)
+loop-i-init c = (refl, refl)
 
 pub secret_word-requires : goal.secret_word-requires
 secret_word-requires c =
-    record { pieces_bound = c.requires.pieces_bound; all_kept = c.requires.all_kept; weights_value = c.weights-weights.ensures; le_i = (omega arith, omega arith); pieces_in_bounds = omega (arith, c.loop-i.invariant.3, c.requires.pieces_bound.0) }
+    record { small = c.requires.small; all_kept = c.requires.all_kept; weights_value = c.weights-weights.ensures; le_i = (omega arith, omega arith); pieces_in_bounds = omega (arith, c.loop-i.invariant.0, c.requires.small.pieces) }
 
 pub loop-i-preserved : goal.loop-i-preserved
 loop-i-preserved c =
     let v = c.loop-i.invariant in (
       omega arith,
-      v.1,
-      length-set c.loop-i.out c.loop-i.i c.secret_word.result ∙ v.2,
-      omega arith,
-      over_on (λ m. joined (column (value_in c.args.slots.now c.args.client) c.args.o.pieces m)) c.args.out.now c.loop-i.out c.loop-i.i c.secret_word.result (omega (arith, v.1)) c.secret_word.ensures.says v.4,
+      over_on (λ m. joined (column (value_in c.args.slots.now c.args.client) c.args.o.pieces m)) c.args.out.now c.loop-i.out c.loop-i.i c.secret_word.result (omega arith) c.secret_word.ensures.says v.1,
     )
-
-pub shape_of-out : goal.shape_of-out
-shape_of-out c = c.loop-i.invariant.2
 
 pub returns : goal.returns
 unfolding secret_of
 returns c =
     let all : c.loop-i.i ≡ c.args.o.width = omega arith in
-    c.loop-i.invariant.4 ∙ ap (λ (n : ℕ). over (run (λ m. joined (column (value_in c.args.slots.now c.args.client) c.args.o.pieces m)) 1 n) c.args.out.now) all
+    c.loop-i.invariant.1 ∙ ap (λ (n : ℕ). over (run (λ m. joined (column (value_in c.args.slots.now c.args.client) c.args.o.pieces m)) 1 n) c.args.out.now) all

@@ -7,16 +7,16 @@ use Rattle.holdings.proofs.holders.way.Goals as goal
 
 pub returns-then-count-needed : goal.returns-then-count-needed
 unfolding way_in
-returns-then-count-needed c = rw (sym c.authorised-authorised.ensures ∙ c.if-authorised.true, ← c.have-count.ensures, lt-ltb _ _ c.if-count-needed.true)
+returns-then-count-needed c = rw (sym c.authorised.ensures ∙ c.if-authorised.true, ← c.have-count.ensures, lt-ltb _ _ c.if-count-needed.true)
 
-pub returns-then-authorised : goal.returns-then-authorised
+pub returns-else-count-needed : goal.returns-else-count-needed
 unfolding way_in
-returns-then-authorised c = rw (sym c.authorised-authorised.ensures ∙ c.if-authorised.true, ← c.have-count.ensures, le-ltb _ _ c.if-count-needed.false)
+returns-else-count-needed c = rw (sym c.authorised.ensures ∙ c.if-authorised.true, ← c.have-count.ensures, le-ltb _ _ c.if-count-needed.false)
 
 pub returns-then-count-needed-2 : goal.returns-then-count-needed-2
 unfolding way_in
-returns-then-count-needed-2 c = rw (sym c.authorised-authorised.ensures ∙ c.if-authorised.false, ← c.have-count.ensures, lt-ltb _ _ c.if-count-needed-2.true)
+returns-then-count-needed-2 c = rw (sym c.authorised.ensures ∙ c.if-authorised.false, ← c.have-count.ensures, lt-ltb _ _ c.if-count-needed-2.true)
 
-pub returns : goal.returns
+pub returns-else-count-needed-2 : goal.returns-else-count-needed-2
 unfolding way_in
-returns c = rw (sym c.authorised-authorised.ensures ∙ c.if-authorised.false, ← c.have-count.ensures, le-ltb _ _ c.if-count-needed-2.false)
+returns-else-count-needed-2 c = rw (sym c.authorised.ensures ∙ c.if-authorised.false, ← c.have-count.ensures, le-ltb _ _ c.if-count-needed-2.false)

@@ -1,27 +1,27 @@
--- `joining::places::chosen` meets its contract. The invariant: the lowest complete set is still to be found from set s on. Assumes nothing.
-use mathlib.Core.Path.{sym, ◌∙◌}
+-- `joining::places::chosen` meets its contract: the library finds the lowest set that is complete. Assumes nothing.
+use mathlib.Core.Path.{◌≡◌, sym, ap, ◌∙◌}
+use mathlib.Core.Bool.{true, false}
 use native.Mathlib.Omega.{arith}
-use Rattle.lists.proofs.FirstLaws.{first_hit, first_miss, first-none}
+use borrow.Author.Tests.{tests}
+use borrow.Author.Rules.{rules}
+use Rattle.std.proofs.lemmas.Iterator.{first_from_Range}
+use Rattle.lists.specs.Places.{placed}
+use Rattle.lists.proofs.FirstLaws.{none_placed}
+use Rattle.lists.proofs.FindLaws.{placed_find}
 use Rattle.joining.specs.Pile.{complete}
-use Rattle.joining.proofs.ChosenLaws.{sets-chosen}
+use Rattle.joining.proofs.ChosenLaws.{first-chosen, sets-chosen}
+use Rattle.joining.proofs.SortedLaws.{by_sets, by_deal}
 use Rattle.joining.proofs.places.chosen.Goals as goal
 
-pub loop-s-init : goal.loop-s-init
-loop-s-init c =
-    (omega arith, sets-chosen c.args.pile.now c.requires.unmixed.1)
-
-pub complete-requires : goal.complete-requires
-complete-requires c =
-    record { unmixed = c.requires.unmixed; table_value = c.requires.table_value; le_s = (c.loop-s.invariant.0, omega arith) }
-
-pub returns-then-complete : goal.returns-then-complete
-returns-then-complete c =
-    sym (c.loop-s.invariant.1 ∙ first_hit (complete c.args.pile.now) c.loop-s.s 71 c.loop-s-test.true (sym c.complete.ensures ∙ c.if-complete.true))
-
-pub loop-s-preserved : goal.loop-s-preserved
-loop-s-preserved c =
-    (omega arith, c.loop-s.invariant.1 ∙ first_miss (complete c.args.pile.now) c.loop-s.s 71 c.loop-s-test.true (sym c.complete.ensures ∙ c.if-complete.false))
+pub returns-then-sorted-ne1988 : goal.returns-then-sorted-ne1988
+returns-then-sorted-ne1988 c =
+    let s = c.args.sorted.now in
+    none_placed (first-chosen s.pile.now (by_deal s.pile.now s.own_is c.if-sorted-ne1988.true))
 
 pub returns : goal.returns
 returns c =
-    sym (c.loop-s.invariant.1 ∙ first-none (complete c.args.pile.now) c.loop-s.s 71 c.loop-s-test.false)
+    let s = c.args.sorted.now in
+    let p = s.pile.now in
+    placed_find (complete p) 1 71 c.find.result (omega arith)
+    (first_from_Range _ _ _ c.find.result (λ x. complete p x ≡ true) (λ x. complete p x ≡ false) c.find.ensures.ran (λ x q k. search (rules, tests)) (λ x q k. search (rules, tests)))
+    ∙ ap placed (sym (sets-chosen p (by_sets p s.own_is c.if-sorted-ne1988.false)))

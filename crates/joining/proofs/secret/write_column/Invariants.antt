@@ -1,15 +1,9 @@
--- `joining::secret::write_column` meets its contract. The invariant: the values of pieces 1 to j stand in front.
--- Assumes nothing.
+-- `joining::secret::write_column` meets its contract. The invariant: the values of pieces 1 to j stand in front. Assumes nothing.
 use mathlib.Core.Path.{◌≡◌}
-use Prim.Native.Nat.{◌-◌, ◌≤◌}
-use lib.ListN.{length}
 use Rattle.lists.specs.Run.{run}
 use Rattle.lists.specs.Over.{over}
-use Rattle.joining.specs.Pile.{own_pieces, value_at}
+use Rattle.joining.specs.Pile.{value_at}
 use Rattle.joining.proofs.secret.write_column.Given as goal
 
 abbrev pub invariant-loop-j : goal.invariant-loop-j
-invariant-loop-j l = (length l.places ≡ own_pieces l.pile) × (l.j ≤ length l.places) × (length l.values ≡ length l.initial.values) × (l.values ≡ over (run (λ m. value_at l.pile m l.i) 1 l.j) l.initial.values)
-
-abbrev pub decreases-loop-j : goal.decreases-loop-j
-decreases-loop-j l = length l.places - l.j
+invariant-loop-j l = l.values ≡ over (run (λ m. value_at l.pile m l.i) 1 l.j) l.initial.values

@@ -1,7 +1,5 @@
--- `joining::secret::write_secret` meets its contract. The invariant: the first i words of the secret are written.
--- Assumes nothing.
+-- `joining::secret::write_secret` meets its contract. The invariant: the first i words of the secret are written. Assumes nothing.
 use mathlib.Core.Path.{◌≡◌}
-use Prim.Native.Nat.{◌-◌, ◌≤◌}
 use lib.ListN.{length}
 use Rattle.lists.specs.Over.{over}
 use Rattle.field.specs.Secret.{secret_of}
@@ -9,7 +7,4 @@ use Rattle.joining.specs.Pile.{own_pieces, value_at}
 use Rattle.joining.proofs.secret.write_secret.Given as goal
 
 abbrev pub invariant-loop-i : goal.invariant-loop-i
-invariant-loop-i l = (l.i ≤ l.w) × (length l.out ≡ length l.initial.out) × (length l.values ≡ 70) × (l.out ≡ over (secret_of (value_at l.pile) (own_pieces l.pile) l.i) l.initial.out)
-
-abbrev pub decreases-loop-i : goal.decreases-loop-i
-decreases-loop-i l = l.w - l.i
+invariant-loop-i g l = (length l.values ≡ 70) × (l.words ≡ over (secret_of (value_at l.pile) (own_pieces l.pile) l.i) l.initial.words)

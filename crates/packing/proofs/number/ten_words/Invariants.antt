@@ -2,14 +2,9 @@
 -- Assumes nothing.
 use mathlib.Core.Path.{◌≡◌}
 use mathlib.Core.List.{◌++◌}
-use Prim.Native.Nat.{◌≤◌}
 use lib.ListN.{length, drop}
 use Rattle.packing.specs.Digits.{digits}
-use Rattle.packing.specs.Inner.{whole}
 use Rattle.packing.proofs.number.ten_words.Given as goal
 
 abbrev pub invariant-loop-c : goal.invariant-loop-c
-invariant-loop-c l = (l.c ≤ 10) × (length l.words ≡ 10) × (digits 8192 l.c (whole l.n) ++ drop l.c l.words ≡ digits 8192 10 (whole l.initial.n))
-
-abbrev pub decreases-loop-c : goal.decreases-loop-c
-decreases-loop-c l = l.c
+invariant-loop-c l = (length l.words ≡ 10) × (digits 8192 l.c l.n ++ drop l.c l.words ≡ digits 8192 10 l.initial.n)

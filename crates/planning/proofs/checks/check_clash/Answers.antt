@@ -1,33 +1,22 @@
--- `planning::checks::check_clash` meets its contract: a place is found exactly where a required set is inside a forbidden one.
+-- `planning::checks::check_clash` meets its contract: CLASH is given at the first required set that lies inside a forbidden one.
 -- Assumes nothing.
-use mathlib.Core.Path.{◌∙◌}
-use mathlib.Core.List.{List}
-use Prim.Native.Nat.{ℕ, ◌≤◌}
+use mathlib.Core.Path.{ap, ◌∙◌}
 use native.Mathlib.Omega.{arith}
-use lib.ListN.{length}
-use Rattle.lists.specs.Places.{found}
-use Rattle.lists.proofs.FirstLaws.{place-most}
-use Rattle.planning.specs.Planned.{around_place, clash_place, clash}
-use Rattle.answer.proofs.SaysLaws.{whole, passes, speaks, silent}
-use Rattle.lists.proofs.SomeLaws.{found_at, found_none}
+use Rattle.answer.specs.Outcome.{checked}
+use Rattle.planning.specs.Sets.{inside}
+use Rattle.lists.proofs.AheadLaws.{start, next, end}
+use Rattle.lists.proofs.PositionLaws.{position_not}
+use Rattle.planning.proofs.ClashLaws.{clash_at, no_clash}
 use Rattle.planning.proofs.checks.check_clash.Goals as goal
 
-in_list : (required forbidden : List ℕ) → clash_place required forbidden ≤ length required
-unfolding clash_place
-in_list required forbidden = place-most (λ r. found (around_place forbidden r)) required
+pub loop-i-init : goal.loop-i-init
+loop-i-init c = start _ _
 
-pub returns-then-a-eq0 : goal.returns-then-a-eq0
-unfolding clash
-returns-then-a-eq0 c = silent (passes (whole _) (found_none c.first_clash-a.ensures c.if-a-eq0.true))
+pub returns-in-Some : goal.returns-in-Some
+returns-in-Some c = ap checked c.refuse.ensures ∙ clash_at c.args.required.now c.args.forbidden.now c.loop-i.invariant c.loop-i-test.true c.first_around.ensures c.in-Some.is
 
-pub offset_bounds-required-a : goal.offset_bounds-required-a
-offset_bounds-required-a c = omega (arith, in_list c.args.required.now c.args.forbidden.now)
-
-pub bounds-required-a : goal.bounds-required-a
-bounds-required-a c = omega (arith, in_list c.args.required.now c.args.forbidden.now)
+pub loop-i-preserved : goal.loop-i-preserved
+loop-i-preserved c = next c.loop-i.invariant c.loop-i-test.true (position_not (inside _) c.args.forbidden.now c.first_around.ensures c.in_default.is)
 
 pub returns : goal.returns
-unfolding clash
-returns c =
-    let place = c.first_clash-a.ensures in
-    c.refuse.ensures ∙ rw (c.first_around-b.ensures, place) (speaks (whole _) (found_at place c.if-a-eq0.false))
+returns c = no_clash c.args.required.now c.args.forbidden.now (end c.loop-i.invariant (omega (arith, c.loop-i-test.false)))

@@ -17,7 +17,7 @@ use Rattle.planning.proofs.groups.fill.Goals.{then-maximal, else-maximal}
 pub loop-g-init : goal.loop-g-init
 loop-g-init c =
     let p = c.requires in
-    (c.group_count-size.ensures, size_le _ _ p.0 c.group_count-size.ensures, search rules, filling_start p.1)
+    (c.group_count-size.ensures, size_le _ _ p.0 c.group_count-size.ensures, filling_start p.1)
 
 -- while a maximal group is still to come there is room for its row
 room : (people g k size : ℕ) (required : List ℕ) (rows : List (List Bool)) → people ≤ 8 → Filling (maximal people required) g k rows → size ≡ 2 ^ people
@@ -29,24 +29,23 @@ room people g k size required rows few h e l t =
 pub offset_bounds-rows-k : goal.offset_bounds-rows-k
 offset_bounds-rows-k c =
     let l = c.loop-g in
-    omega (arith, room _ _ _ _ _ _ c.requires.0 l.invariant.3 l.invariant.0 (omega arith) (sym c.maximal.ensures ∙ c.if-maximal.true))
+    omega (arith, room _ _ _ _ _ _ c.requires.0 l.invariant.2 l.invariant.0 (omega arith) (sym c.maximal.ensures ∙ c.if-maximal.true))
 
 pub bounds-rows-k : goal.bounds-rows-k
 bounds-rows-k c =
     let l = c.loop-g in
-    room _ _ _ _ _ _ c.requires.0 l.invariant.3 l.invariant.0 (omega arith) (sym c.maximal.ensures ∙ c.if-maximal.true)
+    room _ _ _ _ _ _ c.requires.0 l.invariant.2 l.invariant.0 (omega arith) (sym c.maximal.ensures ∙ c.if-maximal.true)
 
 pub overflow_add-k : goal.overflow_add-k
 overflow_add-k c =
     let l = c.loop-g in
-    omega (arith, room _ _ _ _ _ _ c.requires.0 l.invariant.3 l.invariant.0 (omega arith) (sym c.maximal.ensures ∙ c.if-maximal.true))
+    omega (arith, room _ _ _ _ _ _ c.requires.0 l.invariant.2 l.invariant.0 (omega arith) (sym c.maximal.ensures ∙ c.if-maximal.true))
 
 pub loop-g-preserved : goal.loop-g-preserved
 loop-g-preserved c =
     let l = c.loop-g in
-    let h = l.invariant.3 in
+    let h = l.invariant.2 in
     let m = sym c.maximal.ensures in (
-      search rules,
       search rules,
       search rules,
       elim c.if-maximal.branch [
@@ -62,5 +61,5 @@ pub returns : goal.returns
 unfolding groups_by
 returns c =
     let l = c.loop-g in
-    let e = filling_end l.invariant.3 (2 ^ c.args.people) (omega arith) in
+    let e = filling_end l.invariant.2 (2 ^ c.args.people) (omega arith) in
     record { counts = sym e.0; table = e.1 }

@@ -1,53 +1,42 @@
 -- `print::lines::secret_line` meets its contract: no secret line of 16 words is longer than 103 bytes.
 -- Assumes nothing.
-use mathlib.Core.Path.{◌≡◌, sym}
+use Rattle.std.proofs.Common.{rules}
+use mathlib.Core.Path.{◌≡◌, ap, ◌∙◌}
+use mathlib.Core.List.{List}
 use native.Mathlib.Omega.{arith}
-use lib.ListN.{length, take}
-use lib.Seq.{take_all, length-take-le, get_or-take}
+use Prim.Native.Nat.{ℕ, ◌<◌, min}
+use lib.ListN.{length, take, get_or}
+use lib.Seq.{get_or-take}
+use Rattle.print.specs.declared.page.Page.{Page}
 use Rattle.print.specs.Inner.{Room}
 use Rattle.print.specs.Lines.{secret_line}
-use Rattle.print.proofs.WrittenLaws.{printed}
+use Rattle.print.proofs.WrittenLaws.{room_in_front, printed, retold}
 use Rattle.print.proofs.LineLaws.{secret-few}
 use Rattle.print.proofs.lines.secret_line.Goals as goal
 
+-- the words up to their end or to the sixteenth are the first sixteen
+first_words : (words : List ℕ) (n : ℕ) → n ≡ min (length words) 16 → take n words ≡ take 16 words
+first_words words n e = search rules
+
+fits : (words : List ℕ) → ((i : ℕ) → get_or words i 0 < 65536) → (page : Page) → page.at ≡ 0 → (lent : List ℕ) → page.out.now ≡ lent → length lent ≡ 128
+    → Room (secret_line (take 16 words)) page
+fits words small page z lent e l =
+    room_in_front _ z
+    (omega (
+      arith,
+      secret-few (take 16 words) (search rules) (λ i m. rw (get_or-take 16 words i 0 (search rules)) (small i)),
+      ap length e ∙ l,
+    ))
+
 pub write_secret-requires : goal.write_secret-requires
-write_secret-requires c = let fits : Room (secret_line c.args.words.now) 0 c.args.out.now =
-    let g : length c.args.out.now ≡ 128 = omega arith in
-    record { room = omega (arith, secret-few c.args.words.now (omega arith) (λ i l. omega (arith, c.type_inv.words i))) } in
-    fits
-
-pub returns-then-words-le16 : goal.returns-then-words-le16
-returns-then-words-le16 c = let fits : Room (secret_line c.args.words.now) 0 c.args.out.now =
-    let g : length c.args.out.now ≡ 128 = omega arith in
-    record { room = omega (arith, secret-few c.args.words.now (omega arith) (λ i l. omega (arith, c.type_inv.words i))) } in
-    let all : take 16 c.args.words.now ≡ c.args.words.now = take_all 16 c.args.words.now (omega arith) in
-    rw all (printed c.write_secret.ensures (fits))
-
-pub slice_bounds-write_secret-end-3 : goal.slice_bounds-write_secret-end-3
-slice_bounds-write_secret-end-3 c = sym (length-take-le 16 c.args.words.now (omega arith))
-
-pub write_secret-requires-2 : goal.write_secret-requires-2
-write_secret-requires-2 c = let fits_2 : Room (secret_line (take 16 c.args.words.now)) 0 c.args.out.now =
-    let g : length c.args.out.now ≡ 128 = omega arith in
-    let l : length (take 16 c.args.words.now) ≡ 16 = length-take-le 16 c.args.words.now (omega arith) in
-    record {
-      room = omega (
-        arith,
-        secret-few (take 16 c.args.words.now) (omega arith)
-            (λ i m. rw (get_or-take 16 c.args.words.now i 0 (omega arith)) (omega (arith, c.type_inv.words i))),
-      );
-    } in
-    fits_2
+write_secret-requires c =
+    rw (first_words c.args.words.now c.min.result c.min.ensures)
+    (fits c.args.words.now (λ i. omega (arith, c.type_inv.words i)) c.new-page.result c.new-page.ensures.front c.args.out.now c.new-page.ensures.bytes c.told-out)
 
 pub returns : goal.returns
-returns c = let fits_2 : Room (secret_line (take 16 c.args.words.now)) 0 c.args.out.now =
-    let g : length c.args.out.now ≡ 128 = omega arith in
-    let l : length (take 16 c.args.words.now) ≡ 16 = length-take-le 16 c.args.words.now (omega arith) in
-    record {
-      room = omega (
-        arith,
-        secret-few (take 16 c.args.words.now) (omega arith)
-            (λ i m. rw (get_or-take 16 c.args.words.now i 0 (omega arith)) (omega (arith, c.type_inv.words i))),
-      );
-    } in
-    printed c.write_secret-2.ensures (fits_2)
+returns c =
+    let ws = c.args.words.now in
+    let same : take c.min.result ws ≡ take 16 ws = first_words ws c.min.result c.min.ensures in
+    let w = retold (ap secret_line same) c.write_secret.ensures.written in
+    printed c.new-page.ensures.bytes c.new-page.ensures.front w
+    (fits ws (λ i. omega (arith, c.type_inv.words i)) c.new-page.result c.new-page.ensures.front c.args.out.now c.new-page.ensures.bytes c.told-out)

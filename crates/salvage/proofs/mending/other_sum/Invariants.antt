@@ -1,10 +1,6 @@
 -- `salvage::mending::other_sum` meets its contract, by the laws of its loop (SumLoop). Assumes nothing.
-use Prim.Native.Nat.{◌-◌}
 use Rattle.salvage.proofs.SumLoop.{Summing}
 use Rattle.salvage.proofs.mending.other_sum.Given as goal
 
 abbrev pub invariant-loop-k : goal.invariant-loop-k
 invariant-loop-k l = Summing l.b l.i l.sum l.k
-
-abbrev pub decreases-loop-k : goal.decreases-loop-k
-decreases-loop-k l = 256 - l.k

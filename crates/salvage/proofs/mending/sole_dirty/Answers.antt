@@ -1,24 +1,17 @@
 -- `salvage::mending::sole_dirty` meets its contract: what its two searches tell. Assumes nothing.
-use mathlib.Core.List.{List}
-use Prim.Native.Nat.{ℕ, ◌≤◌, ◌<◌}
+use mathlib.Core.Path.{◌∙◌}
 use native.Mathlib.Omega.{arith}
-use Rattle.block.specs.Words.{word_at}
 use Rattle.salvage.proofs.DirtyLaws.{first_hot, search_none, search_one, search_two}
 use Rattle.salvage.proofs.mending.sole_dirty.Goals as goal
 
-pub returns-then-first-eq0 : goal.returns-then-first-eq0
-returns-then-first-eq0 c = let block : List ℕ = c.args.b.now in
-    search_none (block) c.next_above-first.result c.next_above-first.ensures c.if-first-eq0.true
+pub returns-in_err-first : goal.returns-in_err-first
+returns-in_err-first c = c.from_residual.ensures ∙ search_none c.args.b.now c.next_above.ensures c.in_err-first.was
 
 pub overflow_add-first : goal.overflow_add-first
-overflow_add-first c = let block : List ℕ = c.args.b.now in
-    let hot : (1 ≤ c.next_above-first.result) × (c.next_above-first.result ≤ 256) × (32748 < word_at (block) c.next_above-first.result) = first_hot (block) c.next_above-first.result c.next_above-first.ensures c.if-first-eq0.false in
-    omega (arith, (hot).1)
+overflow_add-first c = omega (arith, (first_hot c.args.b.now c.next_above.ensures c.in_ok-first.was).1)
 
-pub returns-then-second-ne0 : goal.returns-then-second-ne0
-returns-then-second-ne0 c = let block : List ℕ = c.args.b.now in
-    search_two (block) _ c.next_above-first.ensures c.if-first-eq0.false _ c.next_above-second.ensures c.if-second-ne0.true
+pub returns-in-Some : goal.returns-in-Some
+returns-in-Some c = search_two c.args.b.now c.next_above.ensures c.in_ok-first.was c.next_above-2.ensures c.in-Some.is
 
-pub returns : goal.returns
-returns c = let block : List ℕ = c.args.b.now in
-    search_one (block) _ c.next_above-first.ensures c.if-first-eq0.false _ c.next_above-second.ensures c.if-second-ne0.false
+pub returns-in-None : goal.returns-in-None
+returns-in-None c = search_one c.args.b.now c.next_above.ensures c.in_ok-first.was c.next_above-2.ensures c.in-None.is
