@@ -14,6 +14,9 @@ seven_vacant = one.seven_vacant
 pub outcome_one : law.OutcomeOne
 outcome_one = one.outcome_one
 
+pub checked_one : law.CheckedOne
+checked_one = one.checked_one
+
 pub done-passed : law.DonePassed
 done-passed A = check.done-passed
 

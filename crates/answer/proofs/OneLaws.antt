@@ -11,8 +11,8 @@ use Rattle.answer.specs.declared.Kind.TheVariants.{People, LongList, Stranger, N
 use Rattle.answer.specs.declared.Kind.TheVariants.{Room, Torn, Long, Unread, Check, Header, Mixed, Conflict, Short, Text, Lone, NotKey, Unlike, Year}
 use Rattle.answer.specs.declared.Kind.TheVariants.{NoClient, Busy, Full, Closed, Rows}
 use Rattle.answer.specs.declared.Refusal.{Refusal}
-use Rattle.std.specs.Prelude.{Result, Ok, Err}
-use Rattle.answer.specs.Outcome.{Answer, number, outcome_by, outcome}
+use Rattle.std.specs.Prelude.{⊤, Result, Ok, Err}
+use Rattle.answer.specs.Outcome.{Answer, number, outcome_by, outcome, checked}
 
 -- the kind of a number; no kind has 0 or 7
 kind_of : ℕ → Kind
@@ -87,3 +87,6 @@ answer_one f one (Err r) (Err s) e =
 
 pub outcome_one : (x y : Answer) → outcome x ≡ outcome y → x ≡ y
 outcome_one = answer_one (λ v. v) (λ v w e. e)
+
+pub checked_one : (x y : Result ⊤ Refusal) → checked x ≡ checked y → x ≡ y
+checked_one = answer_one (λ _. 0) (λ v w e. refl)

@@ -1,9 +1,10 @@
 -- The laws that this room owes; their proofs are in proofs/Laws.antt.
 -- Assumes nothing.
-use Rattle.std.specs.Prelude.{◌≡◌, true, false, ◌≢◌, ℕ}
+use Rattle.std.specs.Prelude.{◌≡◌, true, false, ◌≢◌, ℕ, ⊤, Result}
 use mathlib.Core.List.{List, Memᴰ}
 use Rattle.answer.specs.declared.Kind.{Kind}
-use Rattle.answer.specs.Outcome.{Outcome, Answer, done, refused, number, outcome}
+use Rattle.answer.specs.declared.Refusal.{Refusal}
+use Rattle.answer.specs.Outcome.{Outcome, Answer, done, refused, number, outcome, checked}
 use Rattle.answer.specs.Checks.{Line, first_fail, numbers}
 use Rattle.lists.specs.Over.{over}
 use Rattle.lists.specs.Some.{◌∈◌}
@@ -20,6 +21,10 @@ SevenVacant = (k : Kind) → number k ≢ 7
 -- Equal outcomes, equal answers: a promise `outcome r ≡ ..` leaves one possible answer.
 abbrev pub OutcomeOne : Type 0
 OutcomeOne = (x y : Answer) → outcome x ≡ outcome y → x ≡ y
+
+-- So does a promise `checked r ≡ ..` of a check, whose result is nothing.
+abbrev pub CheckedOne : Type 0
+CheckedOne = (x y : Result ⊤ Refusal) → checked x ≡ checked y → x ≡ y
 
 -- no line of the list is given
 pub record Passed (ls : List Line) : Type 0 where

@@ -2,9 +2,10 @@
 -- Assumes nothing.
 use Prim.Native.Nat.{ℕ, ◌≤◌}
 use mathlib.Core.Path.{◌≡◌, sym, ap, ◌∙◌}
-use mathlib.Core.List.{List}
+use mathlib.Core.List.{List, ◌++◌}
 use native.Mathlib.Omega.{arith}
-use lib.ListN.{length}
+use lib.ListN.{length, take, replicate}
+use lib.Seq.{take_at}
 use Rattle.std.specs.Prelude.{⊤, Result, Ok, Err}
 use Rattle.answer.specs.declared.Refusal.{Refusal}
 use Rattle.answer.specs.Outcome.{Outcome, done, refused, number, checked}
@@ -27,6 +28,10 @@ use Rattle.dealing.proofs.InputLaws.{lines-given}
 use Rattle.bysets.specs.Cards.{sizes, card_by, sets_of, sets_held, set_card}
 use Rattle.bysets.specs.Dealt.{set_block_count, set_deal_lines, set_dealing, set_dealt_into}
 use Rattle.bysets.specs.Inner.{Proper, SetsReady}
+
+-- ---- what is lent: the sets that fill the front of the array
+pub lent-sets : (made : List ℕ) (rest : ℕ) {all : List ℕ} {count : ℕ} → count ≡ length made → all ≡ made ++ replicate rest 0 → take count all ≡ made
+lent-sets made rest {count = count} is filled = rw filled (take_at made (replicate rest 0) count (sym is))
 
 -- ---- an accepted policy: its minimal sets are at most 70, each of 1 to n members
 pub known : (p : Policy) → Passed (plan_lines p) → Known p.people p.required

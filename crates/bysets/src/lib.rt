@@ -57,5 +57,5 @@ pub fn deal_by_sets(deal: Deal, holder: usize, out: &mut [u8]) -> Answer
 {
     planning::check(deal.policy)?;
     let sets = minimal::minimal_sets(deal.policy.people, deal.policy.required);
-    deal_sets(deal, holder, &sets, out)
+    deal_sets(deal, holder, &sets.sets[..sets.count], out)
 }

@@ -4,8 +4,8 @@ use mathlib.Core.Path.{◌≡◌, refl, sym, ap, ◌∙◌}
 use mathlib.Core.Bool.{Bool, true, false, cond, not}
 use mathlib.Core.List.{List}
 use mathlib.Core.Logic.{⊎_elim}
-use Prim.Native.Nat.{ℕ, zero, suc, ◌+◌, ◌-◌, ◌*◌, ◌%◌, ◌^◌, ◌≤◌, ◌<◌}
-use native.Mathlib.Nat.{eq-or-lt_of_le, le_of_suc-le-suc, mul-le-mul, mul-le-mul_right}
+use Prim.Native.Nat.{ℕ, zero, suc, ◌+◌, ◌-◌, ◌*◌, ◌^◌, ◌≤◌, ◌<◌}
+use native.Mathlib.Nat.{eq-or-lt_of_le, le_of_suc-le-suc, mul-le-mul, mul-le-mul_right, pow-suc}
 use native.Mathlib.Numerals.{add-one}
 use native.Mathlib.Omega.{arith}
 use lib.Bits.{bit_and}
@@ -74,13 +74,14 @@ have_by_lem l sets g h =
     (λ j a b. ap (λ (s : ℕ). meets s g) (h.right j a (omega arith)) ∙ meets-has l g j))
 
 -- ---- the loops
--- the people 1 to i are gathered in s
-pub record Gathered (l : Holdings) (j i s : ℕ) : Type 0 where
+-- the people 1 to i are gathered in s, and the next one is worth w
+pub record Gathered (l : Holdings) (j i s w : ℕ) : Type 0 where
+  pub next-worth : w ≡ 2 ^ i
   pub so_far : s ≡ set_of (λ x. owns l x j) i
 
-pub gather_start : {l : Holdings} {j : ℕ} → Gathered l j 0 0
+pub gather_start : {l : Holdings} {j : ℕ} → Gathered l j 0 0 1
 unfolding set_of
-gather_start = record { so_far = refl }
+gather_start = record { next-worth = refl; so_far = refl }
 
 -- the next person's mark lies in the list
 pub mark_in : {n m i j : ℕ} → i < n → 1 ≤ j → j ≤ m → i * m + (j - 1) < n * m
@@ -88,31 +89,30 @@ mark_in {n} {m} {i} {j} a b c =
     let q : suc i * m ≤ n * m = mul-le-mul_right m a in
     omega arith
 
-module _ {l : Holdings} {j i s : ℕ} (h : Gathered l j i s) where
+module _ {l : Holdings} {j i s w : ℕ} (h : Gathered l j i s w) where
   -- the next person's mark
   here : owns l (suc i) j ≡ eqb (get_or l.marks (i * l.pieces + (j - 1)) 0) 1
   unfolding owns
   here = rw (back i)
 
-  gather_more : (x : ℕ) → cond (owns l (suc i) j) (worth (suc i)) 0 ≡ x → Gathered l j (i + 1) (s + x)
+  gather_more : (x : ℕ) → cond (owns l (suc i) j) (worth (suc i)) 0 ≡ x → Gathered l j (i + 1) (s + x) (w * 2)
   unfolding set_of
-  gather_more x e = record { so_far = rw (add-one i, e, h.so_far) }
+  gather_more x e = record {
+    next-worth = ap (λ (y : ℕ). y * 2) h.next-worth ∙ sym (pow-suc 2 i) ∙ ap (λ (y : ℕ). 2 ^ y) (sym (add-one i));
+    so_far = rw (add-one i, e, h.so_far);
+  }
 
-  pub gather_hit : get_or l.marks (i * l.pieces + (j - 1)) 0 ≡ 1 → Gathered l j (i + 1) (s + 2 ^ i)
-  gather_hit e = gather_more (2 ^ i) (rw (here, eq-eqb _ _ e, back i))
+  pub gather_hit : get_or l.marks (i * l.pieces + (j - 1)) 0 ≡ 1 → Gathered l j (i + 1) (s + w) (w * 2)
+  gather_hit e = gather_more w (rw (here, eq-eqb _ _ e, back i, h.next-worth))
 
-  pub gather_miss : (get_or l.marks (i * l.pieces + (j - 1)) 0 ≡ 1 → ⊥) → Gathered l j (i + 1) s
+  pub gather_miss : (get_or l.marks (i * l.pieces + (j - 1)) 0 ≡ 1 → ⊥) → Gathered l j (i + 1) s (w * 2)
   gather_miss n = let z : s + 0 ≡ s = omega arith in rw z at (gather_more 0 (rw (here, ne_eqb _ _ n)))
 
-  -- the worth is small enough to add, and to be made by a shift
-  pub gather_small : (n : ℕ) → n ≤ 8 → i < n → (2 ^ i ≤ 128) × (s < 128)
+  -- the worth is small enough to add, and to be doubled
+  pub gather_small : (n : ℕ) → n ≤ 8 → i < n → (w ≤ 128) × (s < 128)
   gather_small n few m =
       let q : 2 ^ i ≤ 2 ^ 7 = pow_mono {j = 7} (omega arith) in
-      (omega arith, omega (arith, h.so_far, set_lt (λ x. owns l x j) i))
-
--- a worth as a shift makes it
-pub worth_in : (i : ℕ) → 2 ^ i ≤ 128 → 1 * 2 ^ i % 65536 ≡ 2 ^ i
-worth_in i h = omega arith
+      (omega (arith, h.next-worth), omega (arith, h.so_far, set_lt (λ x. owns l x j) i))
 
 -- n people's marks are few
 pub marks-few : (n m : ℕ) → n ≤ 8 → m ≤ 70 → n * m ≤ 560

@@ -25,10 +25,13 @@ fn holder_set(list: Holdings, j: usize) -> u16
     ensures { result ≡ holders_of (list_in list.entry) j }
 {
     let mut set = 0u16;
+    // what the next person is worth: doubled from one to the next, since a shift for each mark takes longer
+    let mut worth = 1u16;
     for i in 0..list.people {
         if list.marks[i * list.pieces + (j - 1)] == 1 {
-            set += 1 << i;
+            set += worth;
         }
+        worth *= 2;
     }
     set
 }

@@ -19,7 +19,7 @@ use Rattle.planning.specs.Groups.{marked}
 use Rattle.planning.specs.Planned.{people, long, list_lines, plan_lines, planned, planned_rows}
 use Rattle.planning.proofs.Laws.{accepted-listed, some-piece}
 use Rattle.policy.specs.declared.PolicyText.{PolicyText}
-use Rattle.policy.specs.Policy.{Holds}
+use Rattle.policy.specs.Policy.{Keeps, Holds}
 use Rattle.print.specs.Lines.{refused_line}
 use Rattle.print.proofs.DecimalLaws.{below}
 use Rattle.listing.specs.Listing.{listing_by, listing, answered, listed_plan, listed_policy}
@@ -80,10 +80,12 @@ pub read_not : (o : Outcome Policy) (r : Refusal) → Holds o (Err r) → listed
 read_not (done p) r h = absurd h
 read_not (refused m a b) r h = sym (rw (h.0, h.1, h.2))
 
-pub read_to : (o : Outcome Policy) (t : PolicyText) → Holds o (Ok t)
-    → listed_policy o ≡ listed_plan (policy_of t.people t.required.items t.forbidden.items)
-read_to (done p) t h = sym (rw (h.people, h.required, h.forbidden) (first-sets p.people p.required p.forbidden))
-read_to (refused m a b) t h = absurd h
+-- the text's lists are taken as they are read
+pub read_to : (o : Outcome Policy) (t : PolicyText) {required forbidden : List ℕ} → Holds o (Ok t)
+    → ((sets : List ℕ) → Keeps sets t.required → required ≡ take 257 sets) → ((sets : List ℕ) → Keeps sets t.forbidden → forbidden ≡ take 257 sets)
+    → listed_policy o ≡ listed_plan (policy_of t.people required forbidden)
+read_to (done p) t h r f = sym (rw (h.people, r p.required h.required, f p.forbidden h.forbidden) (first-sets p.people p.required p.forbidden))
+read_to (refused m a b) t h r f = absurd h
 
 module _ (p : Policy) (x : Result Plan Refusal) (says : outcome_by (λ (plan : Plan). plan.pieces) x ≡ planned p) where
   pub not_planned : {r : Refusal} → x ≡ Err r → listed_plan p ≡ refused_line (number r.kind) r.a r.b

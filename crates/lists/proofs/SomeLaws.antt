@@ -1,7 +1,7 @@
 -- Some set of the list: which one it is, and that a first place is found exactly where there is one.
 -- Assumes nothing.
 use mathlib.Core.Path.{◌≡◌, refl, sym, ap, ◌∙◌}
-use mathlib.Core.Bool.{Bool, true, false, ◌||◌, false≢true}
+use mathlib.Core.Bool.{Bool, true, false, false≢true}
 use mathlib.Core.List.Memᴰ
 use mathlib.Core.List.{List, [], ◌∷◌}
 use mathlib.Core.Logic.{⊎_elim, ◌≢◌}
@@ -9,18 +9,11 @@ use Prim.Native.Nat.{ℕ, ◌-◌}
 use native.Mathlib.Omega.{arith}
 use lib.Dec.{eqb}
 use borrow.Author.Tests.{eqb-true, eqb-false, ne_eqb}
-use Rattle.std.specs.List.{list_any}
 use Rattle.lists.specs.Places.{first_place, found, at}
 use Rattle.lists.proofs.FirstLaws.{place-most, place-has, place_lacks}
 use Rattle.lists.proofs.ThoseLaws.{at_in, in_at}
 use Rattle.lists.specs.Some.{◌∈◌, some}
 use Rattle.lists.proofs.Truth.{never, decided, isn't, or_cases, or_l, or_r}
-
--- the library's `any`
-pub any_some : (test : ℕ → Bool) (l : List ℕ) → list_any test l ≡ some test l
-unfolding some
-any_some test [] = refl
-any_some test (s ∷ l) = ap (λ (b : Bool). test s || b) (any_some test l)
 
 module _ (test : ℕ → Bool) where
   pub some_in : (l : List ℕ) → some test l ≡ true → (s : ℕ) × (s ∈ l) × (test s ≡ true)

@@ -1,11 +1,17 @@
 // The minimal required sets in rising number (SCOPE 2.3), and the pieces of a set's members.
 #![tactic(auto)]
 
-ghost use Rattle.std.specs.Prelude.{◌≡◌, ◌≤◌};
+ghost use Rattle.std.specs.Prelude.{◌≡◌, ◌++◌, ◌-◌, ◌≤◌, replicate};
 ghost use Rattle.planning.specs.Sets.{member};
-ghost use Rattle.minimal.specs.Minimal.{least, minimals, counted};
+ghost use Rattle.minimal.specs.Minimal.{least, minimals, set_count, counted};
 
-use arrayvec::ArrayVec;
+// The minimal sets: the first `count` of the array, behind which it has zeros. 70 are enough, since none lies inside another. It is no vector of
+// the kit, since it is Copy.
+#[derive(Clone, Copy)]
+pub struct Sets {
+    pub sets: [u16; 70],
+    pub count: usize,
+}
 
 // Person i is in the set.
 pub fn has(set: u16, i: usize) -> bool
@@ -27,20 +33,33 @@ pub fn members(set: u16, last: usize) -> usize
 fn minimal(required: &[u16], g: u16) -> bool
     ensures { result ≡ least required.now g }
 {
-    required.contains(&g) && !required.iter().any(|&r| r != g && planning::inside(r, g))
+    // One pass, which ends at the first smaller set inside g, as most groups have one: a search for g first would read the whole list for each of them.
+    let mut listed = false;
+    for &r in required {
+        if planning::inside(r, g) {
+            if r != g {
+                return false;
+            }
+            listed = true;
+        }
+    }
+    listed
 }
 
-// The minimal required sets of so many people. 70 are enough, since none lies inside another.
-pub fn minimal_sets(people: usize, required: &[u16]) -> ArrayVec<u16, 70>
+// The minimal required sets of so many people.
+pub fn minimal_sets(people: usize, required: &[u16]) -> Sets
     requires { people ≤ 8 }
-    ensures { result.items ≡ minimals people required.now }
+    ensures counts { result.count ≡ set_count people required.now }
+    ensures lists { result.sets ≡ minimals people required.now ++ replicate (70 - result.count) 0 }
 {
-    let mut sets = ArrayVec::new();
+    let mut sets = [0; 70];
+    let mut count = 0;
     let size = planning::group_count(people);
     for g in 0..size {
         if minimal(required, g as u16) {
-            sets.push(g as u16);
+            sets[count] = g as u16;
+            count += 1;
         }
     }
-    sets
+    Sets { sets, count }
 }

@@ -8,10 +8,10 @@ use Prim.Native.Nat.{ℕ, zero, suc, ◌≤◌, ◌<◌}
 use native.Mathlib.Omega.{arith}
 use borrow.Author.Tests.{eqb-true, eq-eqb, ne_eqb, lt-ltb, le-ltb, not-false}
 use lib.Dec.{ltb, eqb}
-use lib.ListN.{length, drop}
+use lib.ListN.{length, drop, replicate}
 use Rattle.std.specs.Prelude.{⊤, Option, Some, None, Result, Ok, Err}
 use Rattle.answer.specs.declared.Refusal.{Refusal}
-use Rattle.answer.specs.Outcome.{Outcome, done, refused, number, checked}
+use Rattle.answer.specs.Outcome.{Outcome, done, refused, number, outcome_by, checked}
 use Rattle.answer.specs.Checks.{first_fail}
 use Rattle.lists.specs.Places.{at, placed}
 use Rattle.lists.specs.Over.{over}
@@ -40,6 +40,22 @@ words-none key h = rw (ne_eqb (length key) 16 h)
 pub words-made : (key : List ℕ) → length key ≡ 16 → packed_words key ≡ packed key
 unfolding packed_words
 words-made key h = rw (eq-eqb (length key) 16 h)
+
+-- a result is no refusal
+apart : (v m a b : ℕ) → done v ≡ refused m a b → ◌≡◌ {A = ℕ} 0 1
+apart v m a b e = cc
+
+-- a key that is refused has not sixteen bytes, and comes to ten zeros
+zeros : (key : List ℕ) (m a b : ℕ) → packing key ≡ refused m a b → packed_words key ≡ replicate 10 0
+zeros key m a b e = by (eqb (length key) 16) refl where
+  by : (t : Bool) → eqb (length key) 16 ≡ t → packed_words key ≡ replicate 10 0
+  by true h = absurd (omega (arith, apart 10 m a b (sym (says-packed key (eqb-true (length key) 16 h)) ∙ e)))
+  by false h = words-none key (λ n. never h (eq-eqb (length key) 16 n))
+
+-- so it does by any result that says what packing says, and is a refusal
+pub comes-to-zeros : (key : List ℕ) (x : Result (List ℕ) Refusal) {r : Refusal} → outcome_by (λ (words : List ℕ). 10) x ≡ packing key → x ≡ Err r
+    → replicate 10 0 ≡ packed_words key
+comes-to-zeros key x {r} e q = sym (zeros key (number r.kind) r.a r.b (sym e ∙ ap (outcome_by (λ (words : List ℕ). 10)) q))
 
 -- where packing gives a result, it is 10, and the words are the key's
 pub packs : (key : List ℕ) (v : ℕ) → packing key ≡ done v → (packing key ≡ done 10) × (packed_words key ≡ packed key)

@@ -1,8 +1,9 @@
 -- The laws that this room owes; their proofs are in proofs/Laws.antt.
 -- Assumes nothing.
-use Rattle.std.specs.Prelude.{ℕ, ◌≤◌, ◌≡◌, List, length}
+use Rattle.std.specs.Prelude.{ℕ, ◌≤◌, ◌≡◌, List, length, Result, IfOk}
 use Rattle.lists.specs.Over.{over}
-use Rattle.answer.specs.Outcome.{done}
+use Rattle.answer.specs.declared.Refusal.{Refusal}
+use Rattle.answer.specs.Outcome.{done, outcome_by}
 use Rattle.answer.specs.Laws.{Passed}
 use Rattle.packing.specs.Digits.{number_of}
 use Rattle.packing.specs.Key.{Key, KeyWords, packed, unpacked, not_key, packing, packed_words, unpacking, unpacked_into}
@@ -50,3 +51,13 @@ PackUnpack = (key out : List ℕ) → Key key → 16 ≤ length out
 abbrev pub UnpackPack : Type 0
 UnpackPack = (words out : List ℕ) → KeyWords words → 16 ≤ length out
     → (unpacking words (length out) ≡ done 16) × (packing (unpacked words) ≡ done 10) × (packed_words (unpacked words) ≡ words)
+
+-- ---- one answer
+-- what packing promises of ten words or a refusal
+pub record Promised (key : List ℕ) (x : Result (List ℕ) Refusal) : Type 0 where
+  pub says : outcome_by (λ (words : List ℕ). 10) x ≡ packing key
+  pub words : IfOk x (λ (words : List ℕ). words ≡ packed_words key)
+
+-- Two results that the promise allows are equal.
+abbrev pub PackOne : Type 0
+PackOne = (key : List ℕ) (x y : Result (List ℕ) Refusal) → Promised key x → Promised key y → x ≡ y

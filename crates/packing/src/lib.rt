@@ -24,6 +24,16 @@ pub fn pack(key: &[u8]) -> Result<[u16; 10], Refusal>
     }
 }
 
+// The ten words that packing comes to, whatever the key: its own, and ten zeros where it is refused.
+pub fn packed_words(key: &[u8]) -> [u16; 10]
+    ensures { result ≡ packed_words key.now }
+{
+    match pack(key) {
+        Ok(words) => words,
+        Err(_) => [0; 10],
+    }
+}
+
 // The most that word i can be.
 fn most(i: usize) -> u16
     ensures { result ≡ most i }

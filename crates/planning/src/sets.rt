@@ -59,7 +59,13 @@ pub fn marks(g: u16) -> [bool; 8]
 pub fn authorised(required: &[u16], g: u16) -> bool
     ensures { result ≡ authorised required.now g }
 {
-    required.iter().any(|&r| inside(r, g))
+    // no `any` over the list: its walk takes an instruction more a set, and judging does little else
+    for i in 0..required.len() {
+        if inside(required[i], g) {
+            return true;
+        }
+    }
+    false
 }
 
 // How many groups so many people have.

@@ -6,8 +6,9 @@ use Rattle.std.specs.Prelude.{Ok, Err}
 use Rattle.answer.specs.Outcome.{done, refused}
 use Rattle.answer.proofs.OneLaws.{refusal_one}
 use Rattle.planning.specs.Policy.{Policy}
+use Rattle.policy.specs.declared.Sets.{Sets}
 use Rattle.policy.specs.declared.PolicyText.{PolicyText}
-use Rattle.policy.specs.Policy.{Says}
+use Rattle.policy.specs.Policy.{Keeps, Says}
 use Rattle.policy.specs.Laws as law
 use Rattle.policy.proofs.WritingLaws as writing
 use Rattle.policy.proofs.ShapeLaws as shape
@@ -29,15 +30,25 @@ pub text_line : law.TextLine
 text_line = refusals.text_line
 
 -- antt compares two records by their fields: what is shown of these at a value's fields is shown of the value
-abbrev text_of : ℕ → List ℕ → List ℕ → PolicyText
-text_of n r f = record { people = n; required = record { items = r }; forbidden = record { items = f } }
+abbrev sets_of_lem : List ℕ → ℕ → Sets
+sets_of_lem s c = record { sets = s; count = c }
+
+abbrev text_of : ℕ → Sets → Sets → PolicyText
+text_of n r f = record { people = n; required = r; forbidden = f }
+
+sets_one : {sets : List ℕ} {x y : Sets} → Keeps sets x → Keeps sets y → x ≡ y
+sets_one {sets} {x} {y} h k =
+    let e : x.sets ≡ y.sets = h.filled ∙ sym k.filled in
+    let f : x.count ≡ y.count = h.counted ∙ sym k.counted in
+    let g : sets_of_lem x.sets x.count ≡ sets_of_lem y.sets y.count = cc in
+    g
 
 text_one : {p : Policy} {x y : PolicyText} → Says p x → Says p y → x ≡ y
 text_one {p} {x} {y} h k =
     let e : x.people ≡ y.people = h.people ∙ sym k.people in
-    let f : x.required.items ≡ y.required.items = h.required ∙ sym k.required in
-    let g : x.forbidden.items ≡ y.forbidden.items = h.forbidden ∙ sym k.forbidden in
-    let t : text_of x.people x.required.items x.forbidden.items ≡ text_of y.people y.required.items y.forbidden.items = cc in
+    let f : x.required ≡ y.required = sets_one h.required k.required in
+    let g : x.forbidden ≡ y.forbidden = sets_one h.forbidden k.forbidden in
+    let t : text_of x.people x.required x.forbidden ≡ text_of y.people y.required y.forbidden = cc in
     t
 
 pub read_one : law.ReadOne

@@ -1,30 +1,29 @@
 -- The two lists as they are read: one set more, one line more, the end.
 -- Assumes nothing.
-use mathlib.Core.Path.{◌≡◌, refl, sym, ap, ◌∙◌}
-use mathlib.Core.Logic.{⊎_elim}
+use mathlib.Core.Path.{◌≡◌, refl, sym, ap, subst, ◌∙◌}
 use mathlib.Core.List.{List, [], ◌∷◌, ◌++◌, append_assoc, append-nil}
 use native.Mathlib.Omega.{arith}
-use Prim.Native.Nat.{ℕ, ◌+◌, ◌-◌, ◌≤◌, ◌<◌}
-use lib.ListN.{length, take, drop, length-append, length-drop}
-use lib.Seq.{take_all, take_at, drop_at, take-append-le, length-take-le}
+use Prim.Native.Nat.{ℕ, suc, ◌+◌, ◌-◌, ◌≤◌, ◌<◌}
+use lib.ListN.{length, take, drop, set, replicate, length-append, length-drop}
+use lib.Seq.{take_all, drop_at, take-append-le, set_at}
 use Rattle.answer.specs.declared.Kind.TheVariants.{Text}
 use Rattle.answer.specs.Outcome.{Outcome, done, refused, number, refusal}
 use Rattle.lists.specs.Places.{first_in}
 use Rattle.lists.proofs.FirstLaws.{first_hit, first_miss, first-none}
 use Rattle.planning.specs.Policy.{Policy, policy_of}
-use Rattle.arrayvec.specs.ArrayVec.{ArrayVec}
+use Rattle.std.proofs.Common.{length-take}
 use Rattle.std.specs.Prelude.{Option, Some, None, Result, Ok, Err}
 use Rattle.std.specs.Option.{MatchOption}
 use denote.Ref.{Bor}
 use Rattle.answer.specs.declared.Kind.{Kind}
 use Rattle.answer.specs.declared.Refusal.{Refusal}
+use Rattle.policy.specs.declared.Sets.{Sets}
 use Rattle.policy.specs.declared.PolicyText.{PolicyText}
 use Rattle.policy.specs.declared.Entry.{Entry}
 use Rattle.policy.specs.declared.Entry.TheVariants.{Need, Bar}
 use Rattle.policy.specs.Policy.{lines, line_of, people_in, begins, line_says, is_nothing, is_bad, need_first, bar_first, required_in, forbidden_in}
 use Rattle.policy.specs.Inner.{line_length, Adds}
 use Rattle.policy.specs.Policy.{bad_at, bad_line, policy_in, read_policy, Keeps, Holds}
-use Rattle.print.proofs.DecimalLaws.{below}
 use Rattle.policy.proofs.LinesLaws.{Cut}
 use Rattle.policy.proofs.BadLaws.{end, text_bad, text_good, first-line, next_rest, in_lines, bad-there}
 
@@ -33,17 +32,35 @@ pub refused_is : {o : Outcome Policy} {k : Kind} {a b : ℕ} {r : Result PolicyT
 refused_is {o} {k} {a} {b} {r} e f = rw (e, f) (refl, refl, refl)
 
 -- ---- one set more
--- the first 257 of the first 257 and one more are the first 257 of all
-still_kept : (sets : List ℕ) (s : ℕ) → take 257 (take 257 sets ++ s ∷ []) ≡ take 257 (sets ++ s ∷ [])
-still_kept sets s =
-    ⊎_elim (λ (l : length sets < 257). ap (λ (t : List ℕ). take 257 (t ++ s ∷ [])) (take_all 257 sets (omega arith)))
-    (λ (l : 257 ≤ length sets).
-    let n : length (take 257 sets) ≡ 257 = length-take-le 257 sets l in
-    take_at (take 257 sets) (s ∷ []) 257 n ∙ sym (take-append-le 257 sets (s ∷ []) l))
-    (below (length sets) 257)
+module _ (sets : List ℕ) (s : ℕ) where
+  abbrev more : List ℕ
+  more = sets ++ s ∷ []
 
-pub kept_more : (sets : List ℕ) (s : ℕ) {old new : ArrayVec ℕ} → Keeps sets old → new.items ≡ take 257 (old.items ++ s ∷ []) → Keeps (sets ++ s ∷ []) new
-kept_more sets s k e = e ∙ ap (λ (l : List ℕ). take 257 (l ++ s ∷ [])) k ∙ still_kept sets s
+  -- the set stands in the place of the first of the zeros
+  pub kept_more : (kept : Sets) → kept.count < 257 → Keeps sets kept → Keeps more (record { sets = set kept.sets kept.count s; count = kept.count + 1 })
+  kept_more kept h k =
+      let n : length more ≡ length sets + 1 = length-append sets (s ∷ []) in
+      let few : (kept.count ≡ length sets) × (length sets < 257) = omega (arith, k.counted, length-take 257 sets) in
+      let all : take 257 sets ≡ sets = take_all 257 sets (omega (arith, few.1)) in
+      let all_more : take 257 more ≡ more = take_all 257 more (omega (arith, few.1)) in
+      let zeros : 257 - length sets ≡ suc (257 - length more) = omega (arith, few.1) in
+      let zeros_behind : List ℕ = replicate (257 - length more) 0 in
+      record {
+        filled =
+            ap (λ (l : List ℕ). set l kept.count s) (rw (all, zeros) at k.filled)
+            ∙ set_at sets 0 zeros_behind s kept.count (sym few.0) ∙ sym (append_assoc sets (s ∷ []) zeros_behind)
+            ∙ sym (ap (λ (l : List ℕ). l ++ zeros_behind) all_more);
+        counted = omega (arith, few.0, ap length all_more);
+      }
+
+  -- there is no place for it
+  pub kept_full : (kept : Sets) → 257 ≤ kept.count → Keeps sets kept → Keeps more kept
+  kept_full kept h k =
+      let n : length more ≡ length sets + 1 = length-append sets (s ∷ []) in
+      let l : 257 ≤ length sets = omega (arith, k.counted, length-take 257 sets) in
+      let same : take 257 more ≡ take 257 sets = take-append-le 257 sets (s ∷ []) l in
+      let zeros : 257 - length more ≡ 257 - length sets = omega arith in
+      record { filled = k.filled ∙ sym (rw (same, zeros)); counted = k.counted ∙ sym (ap length same) }
 
 -- ---- the first line
 -- a text with no bytes gives no people; another gives those of the line that was cut off
@@ -82,7 +99,7 @@ pub record Going (text : List ℕ) (read : PolicyText) (rest : List ℕ) (line :
   pub bad-all : bad_line (lines text) ≡ first_in (bad_at (lines text)) line (end (lines text))
 
 pub going_first : {text more : List ℕ} {read : PolicyText} {people : Option ℕ} → First text more people → people ≡ Some read.people
-    → read.required.items ≡ [] → read.forbidden.items ≡ [] → Going text read more 2
+    → Keeps [] read.required → Keeps [] read.forbidden → Going text read more 2
 unfolding bad_line bad_at
 going_first {text} {more} {read} {people} f e p q =
     let r = (first-line text).1 in
@@ -130,11 +147,11 @@ module _ {text : List ℕ} {read : PolicyText} {rest : List ℕ} {line : ℕ} (g
 
     pub going_on : {next : PolicyText} (e : Entry) → line_says l ≡ Some e → Adds e read next → Going text next more (line + 1)
     going_on (Need s) q a =
-        going_by (Need s) (g.needs ++ s ∷ []) g.bars q a.0 (kept_more g.needs s g.required_so_far a.1) (ap (λ (v : ArrayVec ℕ). v.items) a.2 ∙ g.forbidden_so_far)
+        going_by (Need s) (g.needs ++ s ∷ []) g.bars q a.0 (a.1 g.needs g.required_so_far) (subst (Keeps g.bars) (sym a.2) g.forbidden_so_far)
         (append_assoc g.needs (s ∷ [])) (λ sets. refl)
     going_on (Bar s) q a =
-        going_by (Bar s) g.needs (g.bars ++ s ∷ []) q a.0 (ap (λ (v : ArrayVec ℕ). v.items) a.1 ∙ g.required_so_far) (kept_more g.bars s g.forbidden_so_far a.2)
-        (λ sets. refl) (append_assoc g.bars (s ∷ []))
+        going_by (Bar s) g.needs (g.bars ++ s ∷ []) q a.0 (subst (Keeps g.needs) (sym a.1) g.required_so_far) (a.2 g.bars g.forbidden_so_far) (λ sets. refl)
+        (append_assoc g.bars (s ∷ []))
 
     pub going_bad : line_says l ≡ None → length text ≤ 16384 → read_policy text ≡ refused (number Text) line 0
     going_bad e few =

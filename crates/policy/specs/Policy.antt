@@ -1,6 +1,6 @@
 -- A policy text (SCOPE 7.1), and refusal 21.
 -- Assumes nothing.
-use Rattle.std.specs.Prelude.{◌≡◌, Bool, true, false, cond, ◌&&◌, List, [], ◌∷◌, ℕ, ◌+◌, ◌-◌, max, ltb, leb, eqb, length, take, drop, get_or, Option, Some, None, Result, Ok, Err}
+use Rattle.std.specs.Prelude.{◌≡◌, Bool, true, false, cond, ◌&&◌, List, [], ◌∷◌, ◌++◌, ℕ, ◌+◌, ◌-◌, max, ltb, leb, eqb, length, take, drop, get_or, replicate, Option, Some, None, Result, Ok, Err}
 use Rattle.answer.specs.declared.Kind.TheVariants.{Text}
 use Rattle.answer.specs.Outcome.{Outcome, done, refused, number}
 use Rattle.answer.specs.Checks.{line, first_fail}
@@ -8,9 +8,9 @@ use Rattle.lists.specs.Places.{first_in, found}
 use Rattle.planning.specs.Sets.{worth}
 use Rattle.planning.specs.Policy.{Policy, policy_of}
 use Rattle.answer.specs.declared.Refusal.{Refusal}
-use Rattle.arrayvec.specs.ArrayVec.{ArrayVec}
 use Rattle.policy.specs.declared.Entry.{Entry}
 use Rattle.policy.specs.declared.Entry.TheVariants.{Need, Bar}
+use Rattle.policy.specs.declared.Sets.{Sets}
 use Rattle.policy.specs.declared.PolicyText.{PolicyText}
 
 -- ---- lines
@@ -157,9 +157,10 @@ read_policy text =
     (done (policy_in (lines text)))
 
 -- ---- what a call hands back
--- the first 257 sets of a list: a list of 257 sets is too long already
-abbrev pub Keeps : List ℕ → ArrayVec ℕ → Type 0
-Keeps sets kept = kept.items ≡ take 257 sets
+-- the first 257 sets of a list, and zeros behind them; how many they are: a list of 257 sets is too long already
+pub record Keeps (sets : List ℕ) (kept : Sets) : Type 0 where
+  pub filled : kept.sets ≡ take 257 sets ++ replicate (257 - length sets) 0
+  pub counted : kept.count ≡ length (take 257 sets)
 
 -- the people of a policy and its two lists
 pub record Says (p : Policy) (text : PolicyText) : Type 0 where

@@ -1,13 +1,12 @@
 // Reading a policy text: line by line, each line for itself (SCOPE 7.1, refusal 21).
 #![tactic(auto)]
 
-ghost use Rattle.std.specs.Prelude.{◌≡◌, ◌-◌, ◌≤◌, ◌++◌, ◌∷◌, [], take};
+ghost use Rattle.std.specs.Prelude.{◌≡◌, List, [], ℕ, ◌-◌, ◌≤◌, take};
 ghost use Rattle.planning.specs.Sets.{worth as Sets·worth};
-ghost use Rattle.policy.specs.Policy.{members, people_in, line_says, read_policy, Holds};
-ghost use Rattle.policy.specs.Inner.{Adds};
+ghost use Rattle.policy.specs.Policy.{members, people_in, line_says, read_policy, Keeps, Holds};
+ghost use Rattle.policy.specs.Inner.{KeepsMore, Adds};
 
 use answer::{Kind, Refusal};
-use arrayvec::ArrayVec;
 
 // What a line behind the first gives: a required set, or a forbidden set.
 #[derive(Clone, Copy, PartialEq, Eq)]
@@ -16,12 +15,30 @@ pub enum Entry {
     Bar(u16),
 }
 
-// What a policy text says: the number of people, and the first 257 sets of each list. A list of 257 sets is too long already.
-#[derive(Drop)]
+// The first 257 sets of a list, with zeros behind them, and how many they are: a list of 257 sets is too long already. It is no vector of the
+// kit, since a policy text is Copy.
+#[derive(Clone, Copy)]
+pub struct Sets {
+    pub sets: [u16; 257],
+    pub count: usize,
+}
+
+// What a policy text says: the number of people, and the two lists.
+#[derive(Clone, Copy)]
 pub struct PolicyText {
     pub people: usize,
-    pub required: ArrayVec<u16, 257>,
-    pub forbidden: ArrayVec<u16, 257>,
+    pub required: Sets,
+    pub forbidden: Sets,
+}
+
+impl Sets {
+    // The sets without the zeros behind them. A count above 257, which reading never leaves, is taken for 257.
+    pub fn as_slice(&self) -> &[u16]
+        ensures value { result.now ≡ take self.now.count self.now.sets }
+        ensures kept { (sets : List ℕ) → Keeps sets self.now → result.now ≡ take 257 sets }
+    {
+        &self.sets[..self.count.min(257)]
+    }
 }
 
 // What the person is worth whose digit is this byte.
@@ -75,12 +92,23 @@ fn read_line(line: &[u8]) -> Option<Entry>
     }
 }
 
-// One set more, where there is a place for it.
-fn keep(sets: &mut ArrayVec<u16, 257>, set: u16)
-    ensures { sets.new.items ≡ take 257 (sets.old.items ++ set ∷ []) }
+// No sets.
+fn no_sets() -> Sets
+    ensures { Keeps [] result }
 {
-    if !sets.is_full() {
-        sets.push(set);
+    Sets {
+        sets: [0; 257],
+        count: 0,
+    }
+}
+
+// One set more, where there is a place for it.
+fn keep(list: &mut Sets, set: u16)
+    ensures { KeepsMore set list.old list.new }
+{
+    if list.count < 257 {
+        list.sets[list.count] = set;
+        list.count += 1;
     }
 }
 
@@ -109,8 +137,8 @@ pub fn read_policy(text: &[u8]) -> Result<PolicyText, Refusal>
     };
     let mut read = PolicyText {
         people,
-        required: ArrayVec::new(),
-        forbidden: ArrayVec::new(),
+        required: no_sets(),
+        forbidden: no_sets(),
     };
     // The number of the line: the first is read, and the library numbers from 0.
     let mut number = 2;

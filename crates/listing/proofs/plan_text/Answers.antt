@@ -1,10 +1,7 @@
 -- `listing::plan_text` meets its contract: the refusal of the text, that of its policy, or the plan. Assumes nothing.
-use mathlib.Core.Path.{◌≡◌, sym, ap, ap₂, subst, ◌∙◌}
-use mathlib.Core.List.{List}
-use Prim.Native.Nat.{ℕ}
+use mathlib.Core.Path.{sym, subst, ◌∙◌}
 use Rattle.answer.proofs.PassedOn.{passed_on}
 use Rattle.planning.specs.Policy.{policy_of}
-use Rattle.planning.specs.Planned.{planned, planned_rows}
 use Rattle.policy.specs.Policy.{read_policy}
 use Rattle.listing.specs.Inner.{Plans}
 use Rattle.listing.specs.Listing.{listed}
@@ -20,24 +17,21 @@ pub returns-in_err-plan : goal.returns-in_err-plan
 unfolding listed
 returns-in_err-plan c =
     let r = c.in_ok-read.read in
-    let p = policy_of r.people r.required.items r.forbidden.items in
-    let same : policy_of r.people c.as_slice.result.now c.as_slice-2.result.now ≡ p =
-    ap₂ (λ (required forbidden : List ℕ). policy_of r.people required forbidden) c.as_slice.ensures.value c.as_slice-2.ensures.value
-    in
+    let p = policy_of r.people c.as_slice.result.now c.as_slice-2.result.now in
     subst (Plans c.args.text.now) (sym (passed_on c.from_residual-in_err-plan.ensures.1))
-    (sym (read_to (read_policy c.args.text.now) r c.in_ok-read.ensures ∙ not_planned p c.plan.result (c.plan.ensures.says ∙ ap planned same) c.in_err-plan.was))
+    (sym
+    (read_to (read_policy c.args.text.now) r c.in_ok-read.ensures c.as_slice.ensures.kept c.as_slice-2.ensures.kept
+    ∙ not_planned p c.plan.result c.plan.ensures.says c.in_err-plan.was))
 
 pub returns : goal.returns
 unfolding listed
 returns c =
     let r = c.in_ok-read.read in
-    let p = policy_of r.people r.required.items r.forbidden.items in
-    let same : policy_of r.people c.as_slice.result.now c.as_slice-2.result.now ≡ p =
-    ap₂ (λ (required forbidden : List ℕ). policy_of r.people required forbidden) c.as_slice.ensures.value c.as_slice-2.ensures.value
-    in
-    let says = c.plan.ensures.says ∙ ap planned same in
-    let rows = c.in_ok-plan.ensures.table ∙ ap planned_rows same in (
+    let p = policy_of r.people c.as_slice.result.now c.as_slice-2.result.now in
+    let says = c.plan.ensures.says in
+    let rows = c.in_ok-plan.ensures.table in (
       few_people p c.plan.result says c.in_ok-plan.was rows,
       few_pieces p c.plan.result says c.in_ok-plan.was rows,
-      listing-is p c.plan.result says c.in_ok-plan.was rows ∙ sym (read_to (read_policy c.args.text.now) r c.in_ok-read.ensures),
+      listing-is p c.plan.result says c.in_ok-plan.was rows
+          ∙ sym (read_to (read_policy c.args.text.now) r c.in_ok-read.ensures c.as_slice.ensures.kept c.as_slice-2.ensures.kept),
     )

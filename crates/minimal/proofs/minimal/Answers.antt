@@ -1,21 +1,24 @@
--- `minimal::minimal` meets its contract: g is required, and no other required set lies within it. Assumes nothing.
-use mathlib.Core.Path.{◌∙◌}
-use Rattle.std.proofs.Common.{rules, tests}
-use Rattle.std.proofs.lemmas.Iterator.{YieldsList-from_slice}
-use Rattle.std.proofs.lemmas.Iterator.Search.{any_from_yields_List}
-use Rattle.lists.proofs.SomeLaws.{any_some}
-use Rattle.minimal.specs.Minimal.{within, least}
-use Rattle.minimal.proofs.LoopLaws.{any_own}
+-- `minimal::minimal` meets its contract: what was seen of g and what is ahead decide. Assumes nothing.
+use mathlib.Core.Path.{sym, ◌∙◌}
+use Rattle.minimal.proofs.LoopLaws.{seek_start, seek_own, seek_next, seek_within, seek_end}
 use Rattle.minimal.proofs.minimal.Goals as goal
+use Rattle.minimal.proofs.minimal.Goals.{then-inside+else-r-g, else-inside}
 
-pub returns-then-contains : goal.returns-then-contains
-unfolding least within
-returns-then-contains c =
-    let own = any_own c.args.g c.args.required.now c.contains.ensures.value c.if-contains.true in
-    let others = any_from_yields_List (within c.args.g) _ _ _ c.any.ensures.ran (YieldsList-from_slice c.args.required.now cc) (λ x b q k. search (rules, tests))
-    ∙ any_some (within c.args.g) c.args.required.now in
-    rw (own, others)
+pub loop-r-init : goal.loop-r-init
+loop-r-init c = seek_start _ _
 
-pub returns-else-contains : goal.returns-else-contains
-unfolding least
-returns-else-contains c = let own = any_own c.args.g c.args.required.now c.contains.ensures.value c.if-contains.false in rw (own, c.if-contains.false)
+pub returns-then-r-g : goal.returns-then-r-g
+returns-then-r-g c =
+    seek_within c.loop-r.invariant c.loop-r-test.true c.if-r-g.true (sym c.inside.ensures ∙ c.if-inside.true)
+
+pub loop-r-preserved : goal.loop-r-preserved
+loop-r-preserved c =
+    let h = c.loop-r.invariant in
+    let p = c.loop-r-test.true in
+    elim c.if-inside.branch [
+      | then-inside+else-r-g w ↦ rw w.listed-is (seek_own h p w.if-r-g.false)
+      | else-inside w ↦ rw w.listed-is (seek_next h p (sym c.inside.ensures ∙ w.if-inside.false))
+    ]
+
+pub returns : goal.returns
+returns c = seek_end c.loop-r.invariant c.loop-r-test.false

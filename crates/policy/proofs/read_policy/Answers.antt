@@ -30,7 +30,7 @@ loop-line-init c =
     let first : First c.args.text.now rest c.and_then.result =
     rw c.split_inclusive-lines.ensures.rest at (first_read lines rest c.and_then.result c.next.result cut c.and_then.ensures)
     in
-    rw c.into_iter-line-iterator.ensures.into_iter_gives (going_first first c.in-Some.is c.new.ensures c.new-2.ensures)
+    rw c.into_iter-line-iterator.ensures.into_iter_gives (going_first first c.in-Some.is c.no_sets.ensures c.no_sets-2.ensures)
 
 pub returns-in_default-read_line : goal.returns-in_default-read_line
 returns-in_default-read_line c =

@@ -1,16 +1,21 @@
--- `planning::sets::authorised` meets its contract: some required set lies inside the group.
+-- `planning::sets::authorised` meets its contract: some set of those still ahead lies inside the group exactly where some required set does.
 -- Assumes nothing.
-use mathlib.Core.Path.{◌∙◌}
-use Rattle.std.proofs.Common.{rules, tests}
-use Rattle.std.proofs.lemmas.Iterator.{YieldsList-from_slice}
-use Rattle.std.proofs.lemmas.Iterator.Search.{any_from_yields_List}
-use Rattle.lists.proofs.SomeLaws.{any_some}
-use Rattle.planning.specs.Sets.{inside}
+use mathlib.Core.Path.{sym, ◌∙◌}
+use native.Mathlib.Omega.{arith}
 use Rattle.planning.specs.Groups.{authorised}
+use Rattle.planning.proofs.LoopLaws.{some-start, some_here, some_next, some_end}
 use Rattle.planning.proofs.sets.authorised.Goals as goal
+
+pub loop-i-init : goal.loop-i-init
+loop-i-init c = some-start _ _
+
+pub returns-then-inside : goal.returns-then-inside
+unfolding authorised
+returns-then-inside c = some_here c.loop-i.invariant (omega arith) (sym c.inside.ensures ∙ c.if-inside.true)
+
+pub loop-i-preserved : goal.loop-i-preserved
+loop-i-preserved c = some_next c.loop-i.invariant (omega arith) (sym c.inside.ensures ∙ c.if-inside.false)
 
 pub returns : goal.returns
 unfolding authorised
-returns c =
-    any_from_yields_List (λ r. inside r c.args.g) _ _ _ c.any.ensures.ran (YieldsList-from_slice c.args.required.now cc) (λ x b q k. search (rules, tests))
-    ∙ any_some _ _
+returns c = some_end c.loop-i.invariant (omega arith)
