@@ -8,7 +8,7 @@ use mathlib.Core.List.{List}
 use native.Mathlib.Omega.{arith}
 use Prim.Native.Nat.{ℕ, ◌≤◌, ◌<◌}
 use lib.ListN.{length, take}
-use lib.Seq.{take_all, length-take-le}
+use lib.Seq.{take_all, take_at, length-take-le}
 use Rattle.answer.specs.declared.Refusal.{Refusal}
 use Rattle.std.specs.Prelude.{Result, Ok, Err}
 use Rattle.answer.specs.Outcome.{Outcome, done, refused, number, outcome_by}
@@ -18,6 +18,7 @@ use Rattle.planning.specs.declared.table.Plan.{Plan}
 use Rattle.planning.specs.Groups.{marked}
 use Rattle.planning.specs.Planned.{people, long, list_lines, plan_lines, planned, planned_rows}
 use Rattle.planning.proofs.Laws.{accepted-listed, some-piece}
+use Rattle.policy.specs.declared.Sets.{Sets}
 use Rattle.policy.specs.declared.PolicyText.{PolicyText}
 use Rattle.policy.specs.Policy.{Keeps, Holds}
 use Rattle.print.specs.Lines.{refused_line}
@@ -80,12 +81,20 @@ pub read_not : (o : Outcome Policy) (r : Refusal) → Holds o (Err r) → listed
 read_not (done p) r h = absurd h
 read_not (refused m a b) r h = sym (rw (h.0, h.1, h.2))
 
--- the text's lists are taken as they are read
-pub read_to : (o : Outcome Policy) (t : PolicyText) {required forbidden : List ℕ} → Holds o (Ok t)
+-- the text's lists are taken as they are read: any two that have the first 257 sets of whatever the text's keep
+pub read_lists : (o : Outcome Policy) (t : PolicyText) {required forbidden : List ℕ} → Holds o (Ok t)
     → ((sets : List ℕ) → Keeps sets t.required → required ≡ take 257 sets) → ((sets : List ℕ) → Keeps sets t.forbidden → forbidden ≡ take 257 sets)
     → listed_policy o ≡ listed_plan (policy_of t.people required forbidden)
-read_to (done p) t h r f = sym (rw (h.people, r p.required h.required, f p.forbidden h.forbidden) (first-sets p.people p.required p.forbidden))
-read_to (refused m a b) t h r f = absurd h
+read_lists (done p) t h r f = sym (rw (h.people, r p.required h.required, f p.forbidden h.forbidden) (first-sets p.people p.required p.forbidden))
+read_lists (refused m a b) t h r f = absurd h
+
+kept_sets : {sets : List ℕ} {kept : Sets} → Keeps sets kept → take kept.count kept.sets ≡ take 257 sets
+kept_sets {sets} {kept} k = ap (take kept.count) k.filled ∙ take_at (take 257 sets) _ kept.count (sym k.counted)
+
+-- so are the text's own, without the zeros behind them
+pub read_to : (o : Outcome Policy) (t : PolicyText) → Holds o (Ok t)
+    → listed_policy o ≡ listed_plan (policy_of t.people (take t.required.count t.required.sets) (take t.forbidden.count t.forbidden.sets))
+read_to o t h = read_lists o t h (λ sets k. kept_sets k) (λ sets k. kept_sets k)
 
 module _ (p : Policy) (x : Result Plan Refusal) (says : outcome_by (λ (plan : Plan). plan.pieces) x ≡ planned p) where
   pub not_planned : {r : Refusal} → x ≡ Err r → listed_plan p ≡ refused_line (number r.kind) r.a r.b

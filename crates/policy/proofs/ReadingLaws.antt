@@ -5,13 +5,14 @@ use mathlib.Core.List.{List, [], ◌∷◌, ◌++◌, append_assoc, append-nil}
 use native.Mathlib.Omega.{arith}
 use Prim.Native.Nat.{ℕ, suc, ◌+◌, ◌-◌, ◌≤◌, ◌<◌}
 use lib.ListN.{length, take, drop, set, replicate, length-append, length-drop}
-use lib.Seq.{take_all, drop_at, take-append-le, set_at}
+use lib.Seq.{take_all, take_at, drop_at, take-append-le, set_at}
 use Rattle.answer.specs.declared.Kind.TheVariants.{Text}
 use Rattle.answer.specs.Outcome.{Outcome, done, refused, number, refusal}
 use Rattle.lists.specs.Places.{first_in}
 use Rattle.lists.proofs.FirstLaws.{first_hit, first_miss, first-none}
 use Rattle.planning.specs.Policy.{Policy, policy_of}
 use Rattle.std.proofs.Common.{length-take}
+use Rattle.std.proofs.lemmas.List.{take_more_set}
 use Rattle.std.specs.Prelude.{Option, Some, None, Result, Ok, Err}
 use Rattle.std.specs.Option.{MatchOption}
 use denote.Ref.{Bor}
@@ -22,7 +23,7 @@ use Rattle.policy.specs.declared.PolicyText.{PolicyText}
 use Rattle.policy.specs.declared.Entry.{Entry}
 use Rattle.policy.specs.declared.Entry.TheVariants.{Need, Bar}
 use Rattle.policy.specs.Policy.{lines, line_of, people_in, begins, line_says, is_nothing, is_bad, need_first, bar_first, required_in, forbidden_in}
-use Rattle.policy.specs.Inner.{line_length, Adds}
+use Rattle.policy.specs.Inner.{line_length, sets_in, Adds}
 use Rattle.policy.specs.Policy.{bad_at, bad_line, policy_in, read_policy, Keeps, Holds}
 use Rattle.policy.proofs.LinesLaws.{Cut}
 use Rattle.policy.proofs.BadLaws.{end, text_bad, text_good, first-line, next_rest, in_lines, bad-there}
@@ -61,6 +62,22 @@ module _ (sets : List ℕ) (s : ℕ) where
       let same : take 257 more ≡ take 257 sets = take-append-le 257 sets (s ∷ []) l in
       let zeros : 257 - length more ≡ 257 - length sets = omega arith in
       record { filled = k.filled ∙ sym (rw (same, zeros)); counted = k.counted ∙ sym (ap length same) }
+
+-- whatever stands in the array: the sets that the list has, and the one behind them where there is a place for it
+module _ (list : Sets) (s : ℕ) (size : length list.sets ≡ 257) where
+  abbrev one_more : List ℕ
+  one_more = sets_in list ++ s ∷ []
+
+  pub added_there : list.count < 257 → sets_in (record { sets = set list.sets list.count s; count = list.count + 1 }) ≡ take 257 one_more
+  added_there h =
+      let n : length one_more ≡ length (sets_in list) + 1 = length-append (sets_in list) (s ∷ []) in
+      take_more_set list.sets list.count s (omega arith)
+      ∙ sym (take_all 257 one_more (omega (arith, n, length-take list.count list.sets)))
+
+  pub added_full : 257 ≤ list.count → sets_in list ≡ take 257 one_more
+  added_full h =
+      let all : sets_in list ≡ list.sets = take_all list.count list.sets (omega arith) in
+      sym (take_at (sets_in list) (s ∷ []) 257 (ap length all ∙ size))
 
 -- ---- the first line
 -- a text with no bytes gives no people; another gives those of the line that was cut off
@@ -147,10 +164,10 @@ module _ {text : List ℕ} {read : PolicyText} {rest : List ℕ} {line : ℕ} (g
 
     pub going_on : {next : PolicyText} (e : Entry) → line_says l ≡ Some e → Adds e read next → Going text next more (line + 1)
     going_on (Need s) q a =
-        going_by (Need s) (g.needs ++ s ∷ []) g.bars q a.0 (a.1 g.needs g.required_so_far) (subst (Keeps g.bars) (sym a.2) g.forbidden_so_far)
+        going_by (Need s) (g.needs ++ s ∷ []) g.bars q a.0 (a.2 g.needs g.required_so_far) (subst (Keeps g.bars) (sym a.3) g.forbidden_so_far)
         (append_assoc g.needs (s ∷ [])) (λ sets. refl)
     going_on (Bar s) q a =
-        going_by (Bar s) g.needs (g.bars ++ s ∷ []) q a.0 (subst (Keeps g.needs) (sym a.1) g.required_so_far) (a.2 g.bars g.forbidden_so_far) (λ sets. refl)
+        going_by (Bar s) g.needs (g.bars ++ s ∷ []) q a.0 (subst (Keeps g.needs) (sym a.1) g.required_so_far) (a.3 g.bars g.forbidden_so_far) (λ sets. refl)
         (append_assoc g.bars (s ∷ []))
 
     pub going_bad : line_says l ≡ None → length text ≤ 16384 → read_policy text ≡ refused (number Text) line 0

@@ -1,10 +1,10 @@
 // Reading a policy text: line by line, each line for itself (SCOPE 7.1, refusal 21).
 #![tactic(auto)]
 
-ghost use Rattle.std.specs.Prelude.{◌≡◌, List, [], ℕ, ◌-◌, ◌≤◌, take};
+ghost use Rattle.std.specs.Prelude.{◌≡◌, List, [], ℕ, ◌-◌, ◌≤◌, ◌++◌, ◌∷◌, take};
 ghost use Rattle.planning.specs.Sets.{worth as Sets·worth};
 ghost use Rattle.policy.specs.Policy.{members, people_in, line_says, read_policy, Keeps, Holds};
-ghost use Rattle.policy.specs.Inner.{KeepsMore, Adds};
+ghost use Rattle.policy.specs.Inner.{sets_in, KeepsMore, Adds};
 
 use answer::{Kind, Refusal};
 
@@ -104,7 +104,8 @@ fn no_sets() -> Sets
 
 // One set more, where there is a place for it.
 fn keep(list: &mut Sets, set: u16)
-    ensures { KeepsMore set list.old list.new }
+    ensures adds { sets_in list.new ≡ take 257 (sets_in list.old ++ set ∷ []) }
+    ensures keeps { KeepsMore set list.old list.new }
 {
     if list.count < 257 {
         list.sets[list.count] = set;

@@ -5,7 +5,7 @@ use Rattle.planning.specs.Policy.{policy_of}
 use Rattle.policy.specs.Policy.{read_policy}
 use Rattle.listing.specs.Inner.{Plans}
 use Rattle.listing.specs.Listing.{listed}
-use Rattle.listing.proofs.PlanLaws.{read_not, read_to, not_planned, few_people, few_pieces, listing-is}
+use Rattle.listing.proofs.PlanLaws.{read_not, read_lists, not_planned, few_people, few_pieces, listing-is}
 use Rattle.listing.proofs.plan_text.Goals as goal
 
 pub returns-in_err-read : goal.returns-in_err-read
@@ -20,7 +20,7 @@ returns-in_err-plan c =
     let p = policy_of r.people c.as_slice.result.now c.as_slice-2.result.now in
     subst (Plans c.args.text.now) (sym (passed_on c.from_residual-in_err-plan.ensures.1))
     (sym
-    (read_to (read_policy c.args.text.now) r c.in_ok-read.ensures c.as_slice.ensures.kept c.as_slice-2.ensures.kept
+    (read_lists (read_policy c.args.text.now) r c.in_ok-read.ensures c.as_slice.ensures.kept c.as_slice-2.ensures.kept
     ∙ not_planned p c.plan.result c.plan.ensures.says c.in_err-plan.was))
 
 pub returns : goal.returns
@@ -33,5 +33,5 @@ returns c =
       few_people p c.plan.result says c.in_ok-plan.was rows,
       few_pieces p c.plan.result says c.in_ok-plan.was rows,
       listing-is p c.plan.result says c.in_ok-plan.was rows
-          ∙ sym (read_to (read_policy c.args.text.now) r c.in_ok-read.ensures c.as_slice.ensures.kept c.as_slice-2.ensures.kept),
+          ∙ sym (read_lists (read_policy c.args.text.now) r c.in_ok-read.ensures c.as_slice.ensures.kept c.as_slice-2.ensures.kept),
     )
